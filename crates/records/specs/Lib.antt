@@ -1,0 +1,4 @@
+pub mod Order
+pub mod Tally
+pub mod Fair
+pub mod Run

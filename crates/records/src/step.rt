@@ -1,0 +1,56 @@
+// One record's check.
+use crate::State;
+use crate::Stepped;
+use crate::Verdict;
+use crate::order;
+use crate::tally;
+use layout::Line;
+use rules::Mark;
+use rules::Sums;
+use rules::field;
+ghost use Prim.Native.Nat.{_+_, _<_};
+ghost use mathlib.Core.Path.{_≡_};
+ghost use lib.ListN.{length};
+ghost use Rattle.layout.specs.Fields.{rowsOf, firstField};
+ghost use Rattle.rules.specs.Small.{Small};
+ghost use Rattle.records.specs.Fair.{Fair};
+ghost use Rattle.records.specs.Run.{fieldsFrom, recordOf};
+
+// The first field that is wrong, if any, of a record that is taken for this line.
+pub fn fields(line: Line, sums: Sums, header: &[u8], rec: &[u8]) -> Verdict
+    requires { ⌜ (length (now header) ≡ 94) × (length (now rec) ≡ 94) × Small sums ⌝ }
+    ensures { λ r. ⌜ r ≡ fieldsFrom (firstField line) (rowsOf line) sums (now (header .entry)) (now (rec .entry)) ⌝ }
+{
+    let count = layout::rows_in(line);
+    let mut number = layout::first_field(line);
+    let mut k = 0;
+    while k < count {
+        if let Mark::Wrong(fault) = field::field(line, k, sums, header, rec) {
+            return Verdict::Failed(fault, number);
+        }
+        number += 1;
+        k += 1;
+    }
+    Verdict::Passed
+}
+
+// One record of 94 bytes in the state that the records before it left.
+pub fn check(st: State, rec: &[u8]) -> Stepped
+    requires { ⌜ Fair st × (st .sums .records < 1000000) × (length (now rec) ≡ 94) ⌝ }
+    ensures { λ r. ⌜ (r ≡ recordOf st (now (rec .entry))) × Fair (r .state) ⌝ }
+{
+    let place = st.place;
+    let sums = st.sums;
+    let header = st.header;
+    let line = order::line_at(place, sums.records, rec[0]);
+    match fields(line, sums, &header, rec) {
+        Verdict::Passed => Stepped {
+            verdict: Verdict::Passed,
+            state: tally::tally(st, line, rec),
+        },
+        Verdict::Failed(fault, number) => Stepped {
+            verdict: Verdict::Failed(fault, number),
+            state: st,
+        },
+    }
+}

@@ -1,0 +1,49 @@
+use Rattle.layout.proofs.Tables.{row-in, part-columns, part-fits}
+use native.Mathlib.Omega.{arith}
+use borrow.Author.Needs.{needs}
+use Rattle.rules.proofs.field.field.Statement.{statement}
+use Rattle.rules.proofs.field.field.Tie as tie
+use Rattle.rules.proofs.field.field.Reads as reads
+use Rattle.rules.proofs.field.field.Lts as lts
+use Rattle.layout.proofs.row_of.Reads as row-of-reads
+use Rattle.rules.proofs.field.kind_check.Reads as kind-check-reads
+
+-- src/field.rt:124:9
+row-of-requires : tie.Need-row-of-requires
+row-of-requires c κs = search needs
+
+-- src/field.rt:125:16
+sub-from : tie.Need-sub-from
+sub-from c = omega (arith, row-in ((c .before .row-of) .result) ((c .before .row-of) .ensures .1) .0)
+
+-- src/field.rt:128:41
+sub-kind-check : tie.Need-sub-kind-check
+sub-kind-check c = omega (arith, row-in ((c .before .row-of) .result) ((c .before .row-of) .ensures .1) .0, row-in ((c .before .row-of) .result) ((c .before .row-of) .ensures .1) .1)
+
+-- src/field.rt:128:41
+part-kind-check-start : tie.Need-part-kind-check-start
+part-kind-check-start c = omega (arith, row-in ((c .before .row-of) .result) ((c .before .row-of) .ensures .1) .0, row-in ((c .before .row-of) .result) ((c .before .row-of) .ensures .1) .1)
+
+-- src/field.rt:128:41
+part-kind-check-end : tie.Need-part-kind-check-end
+part-kind-check-end c = omega (arith, row-in ((c .before .row-of) .result) ((c .before .row-of) .ensures .1) .2, (c .before .before .before .before .pre) .1)
+
+-- src/field.rt:128:5
+kind-check-requires : tie.Need-kind-check-requires
+kind-check-requires c κs = ((c .before .before .before .before .before .pre) .0, (c .before .before .before .before .before .pre) .1, part-fits ((c .before .before .row-of) .result) ((c .before .before .before .before .before .args) .rec .now) ((c .before .before .row-of) .ensures .1) ((c .before .before .before .before .before .pre) .1), (c .before .before .before .before .before .pre) .2)
+
+-- src/field.rt:120:1
+returns : tie.Need-returns
+returns c = rw (← (c .before .before .before .row-of) .ensures .0, ← part-columns ((c .before .before .before .row-of) .result) ((c .before .before .before .before .before .before .args) .rec .now) ((c .before .before .before .row-of) .ensures .1)) ((c .kind-check) .ensures)
+
+pub field-spec : {M : Type 1} → statement M
+field-spec =
+    tie.close
+    (tie.spec
+    row-of-requires
+    sub-from
+    sub-kind-check
+    part-kind-check-start
+    part-kind-check-end
+    kind-check-requires
+    returns)

@@ -1,0 +1,22 @@
+use borrow.Author.Tests.{eq-eqb, ne-eqb}
+use mathlib.Core.Path.{refl}
+use borrow.Author.Needs.{needs}
+use Rattle.rules.proofs.near.trace_follows.Statement.{statement}
+use Rattle.rules.proofs.near.trace_follows.Tie as tie
+use Rattle.rules.proofs.near.trace_follows.Reads as reads
+use Rattle.rules.proofs.near.trace_follows.Lts as lts
+
+-- src/near.rt:112:9
+returns : tie.Need-returns
+returns c = rw (eq-eqb _ _ (c .if1 .taken)) refl
+
+-- src/near.rt:114:10
+add-result : tie.Need-add-result
+add-result c = search needs
+
+-- src/near.rt:107:1
+returns-2 : tie.Need-returns-2
+returns-2 c = rw (ne-eqb _ _ (c .before .if1 .left)) refl
+
+pub trace-follows-spec : {M : Type 1} → statement M
+trace-follows-spec = tie.close (tie.spec returns add-result returns-2)

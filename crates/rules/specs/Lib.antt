@@ -1,0 +1,4 @@
+pub mod Kinds
+pub mod Codes
+pub mod Field
+pub mod Small

@@ -1,0 +1,44 @@
+// The rules for one field, and the single-field check that reads them from the record type's table.
+use layout::Fault;
+
+pub mod codes;
+pub mod field;
+mod kinds;
+pub mod near;
+mod own;
+
+// What a field's rules say of it: right, or the lowest number that applies.
+pub enum Mark {
+    Right,
+    Wrong(Fault),
+}
+
+// What an entry's code is for: live money, or a prenote that carries none.
+pub enum Use {
+    Live,
+    Prenote,
+}
+
+// What a transaction code says.
+pub enum Code {
+    Unknown,
+    Credit(Use),
+    Debit(Use),
+}
+
+// What is counted and summed over the records so far. Those of the batch start anew at each record 5.
+pub struct Sums {
+    pub records: u64,
+    pub batches: u64,
+    pub entries: u64,
+    pub addenda: u64,
+    pub hash: u64,
+    pub debit: u64,
+    pub credit: u64,
+    pub batchrecords: u64,
+    pub batchhash: u64,
+    pub batchdebit: u64,
+    pub batchcredit: u64,
+    pub number: u64,
+    pub trace: u64,
+}

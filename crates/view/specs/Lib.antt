@@ -1,0 +1,5 @@
+pub mod View
+pub mod Table
+pub mod Outcome
+pub mod Sized
+pub mod Keeps

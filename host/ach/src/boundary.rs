@@ -1,0 +1,47 @@
+//! The C boundary as it is, for the safe functions of this crate and for tests of the boundary.
+//!
+//! Every function answers 0 if it grants, else number + 256 * field + 65536 * record. A refusal
+//! leaves all lent memory untouched.
+
+extern "C" {
+    /// Checks the `n` bytes at `file`. Granted, it fills 21 numbers: batches, entries, addenda,
+    /// debit and credit cents, then count and cents for each of the eight codes.
+    pub fn ach_check(file: *const u8, n: usize, acceptance: *mut u64) -> u64;
+}
+
+#[cfg(feature = "read_write")]
+extern "C" {
+    /// Writes the pay table of a file to `table`, and its length to `length`.
+    pub fn ach_read(
+        file: *const u8,
+        n: usize,
+        table: *mut u8,
+        room: usize,
+        length: *mut u64,
+    ) -> u64;
+
+    /// Writes the file of a pay table to `file`, and its length to `length`.
+    pub fn ach_write(
+        table: *const u8,
+        n: usize,
+        file: *mut u8,
+        room: usize,
+        length: *mut u64,
+    ) -> u64;
+}
+
+#[cfg(feature = "alter")]
+extern "C" {
+    /// Gives an entry a new amount; the new less the old goes to `difference`.
+    pub fn ach_alter(file: *mut u8, n: usize, entry: u64, amount: u64, difference: *mut i64)
+        -> u64;
+
+    /// Tells where the text of an entry's addendum starts in the file, and its length.
+    pub fn ach_addendum(
+        file: *const u8,
+        n: usize,
+        entry: u64,
+        start: *mut u64,
+        length: *mut u64,
+    ) -> u64;
+}

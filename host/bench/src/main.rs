@@ -1,0 +1,109 @@
+//! Times the proved library against the independent implementation, both in this process and on
+//! the same file of a million records. To be built with `--release`.
+//!
+//! The best of several rounds counts, since whatever else the machine does only adds time. The
+//! rounds of the two sides take turns, so that a slow while hits both.
+
+use generate::{big_file, BigFile};
+use std::hint::black_box;
+use std::time::{Duration, Instant};
+
+const RECORDS: usize = 1_000_000;
+const ROUNDS: usize = 7;
+
+fn main() {
+    let shape = BigFile { records: RECORDS, entries_in_batch: 20_000, addendum_every: 4 };
+    let file = big_file(&shape);
+    println!("a file of {RECORDS} records, {} bytes, best of {ROUNDS}", file.len());
+    println!("           proved library          independent             ratio");
+    check(&file);
+    #[cfg(feature = "read_write")]
+    read_and_write(&file);
+    #[cfg(feature = "alter")]
+    alter(&file);
+}
+
+fn check(file: &[u8]) {
+    race(
+        "check",
+        || ach::check(black_box(file)).map(|held| held.entries).expect("the file is in order"),
+        || {
+            independent::check(black_box(file))
+                .map(|held| held.entries)
+                .expect("the file is in order")
+        },
+    );
+}
+
+#[cfg(feature = "read_write")]
+fn read_and_write(file: &[u8]) {
+    let table = independent::read(file).expect("the file is in order");
+    let (mut one, mut other) = (vec![0; table.len()], vec![0; table.len()]);
+    race(
+        "read",
+        || ach::read(black_box(file), &mut one).expect("the room suffices"),
+        || independent::read_into(black_box(file), &mut other).expect("the room suffices"),
+    );
+    let (mut one, mut other) = (vec![0; file.len()], vec![0; file.len()]);
+    race(
+        "write",
+        || ach::write(black_box(&table), &mut one).expect("the room suffices"),
+        || independent::write_into(black_box(&table), &mut other).expect("the room suffices"),
+    );
+}
+
+#[cfg(feature = "alter")]
+fn alter(file: &[u8]) {
+    let entry = middle_live_entry(file);
+    let (mut one, mut other) = (file.to_vec(), file.to_vec());
+    race(
+        "alter",
+        || ach::alter(black_box(&mut one), entry, 4_711).expect("the entry takes it"),
+        || independent::alter(black_box(&mut other), entry, 4_711).expect("the entry takes it"),
+    );
+    race(
+        "addendum",
+        || ach::addendum(black_box(file), entry).map(<[u8]>::len).expect("the entry is there"),
+        || independent::addendum(black_box(file), entry).expect("the entry is there").1,
+    );
+}
+
+/// The number of an entry in the middle of the file that carries money.
+#[cfg(feature = "alter")]
+fn middle_live_entry(file: &[u8]) -> u64 {
+    let entries = file.chunks(generate::RECORD).filter(|record| record[0] == b'6');
+    let is_live = |record: &[u8]| [b'2', b'7'].contains(&record[2]);
+    let numbered = entries.zip(1_u64..).skip(RECORDS / 3);
+    let mut live = numbered.filter(|(record, _)| is_live(record));
+    live.next().map(|(_, number)| number).expect("every other entry carries money")
+}
+
+/// Lets the two sides do the same, in turns, and prints a row.
+fn race<T: PartialEq + std::fmt::Debug>(
+    name: &str,
+    mut proved: impl FnMut() -> T,
+    mut independent: impl FnMut() -> T,
+) {
+    let mut best = [Duration::MAX; 2];
+    for _ in 0..ROUNDS {
+        let (result, time) = timed(&mut proved);
+        let (expected, other_time) = timed(&mut independent);
+        // The first round of an alteration finds another amount than the later ones, on both sides.
+        assert_eq!(result, expected, "{name}: the two sides differ");
+        best = [best[0].min(time), best[1].min(other_time)];
+    }
+    let ratio = best[0].as_secs_f64() / best[1].as_secs_f64();
+    println!("{name:<9}{}{}  {ratio:>6.2}", column(best[0]), column(best[1]));
+}
+
+fn timed<T>(work: &mut impl FnMut() -> T) -> (T, Duration) {
+    let start = Instant::now();
+    let result = black_box(work());
+    (result, start.elapsed())
+}
+
+fn column(time: Duration) -> String {
+    let milliseconds = time.as_secs_f64() * 1e3;
+    let per_record = time.as_secs_f64() * 1e9 / RECORDS as f64;
+    format!("  {milliseconds:>8.1} ms {per_record:>6.1} ns/rec")
+}

@@ -1,0 +1,238 @@
+//! Altering amounts and asking for addenda: the same answers, and the file as if written afresh.
+
+use crate::tally::{Outcome, Tally, PATTERN};
+use crate::Run;
+use ach::boundary::{ach_addendum, ach_alter};
+use generate::damage::random_damage;
+use generate::{is_credit, near_limit, plan, sample, Batch, Entry, Plan, Random};
+
+const DEFAULT_CASES: u64 = 100_000;
+const LARGEST_TOTAL: u64 = 999_999_999_999;
+const LONGEST_RUN: usize = 50;
+
+const AMOUNTS: [u64; 12] = [
+    0,
+    1,
+    2,
+    9_999_999_998,
+    9_999_999_999,
+    10_000_000_000,
+    10_000_000_001,
+    u32::MAX as u64 + 1,
+    1 << 32 | 1,
+    i64::MAX as u64,
+    1 << 63,
+    u64::MAX,
+];
+
+pub fn compare(run: &Run, tally: &mut Tally) {
+    let cases = run.cases.unwrap_or(DEFAULT_CASES);
+    let mut random = Random::new(run.seed);
+    bad_inputs(tally);
+    let mut bases = vec![sample()];
+    bases.extend((0..20).map(|_| plan(&mut random, 3, 4)));
+    for base in &bases {
+        every_entry(tally, base);
+    }
+    limits(tally);
+    while tally.cases() < cases {
+        let plan = plan(&mut random, 4, 6);
+        run_of_alterations(tally, &mut random, plan);
+        damaged_file(tally, &mut random);
+    }
+}
+
+fn bad_inputs(tally: &mut Tally) {
+    // SAFETY: of no bytes none is read or written, so the pointer to them may be null.
+    let (asked, altered) =
+        unsafe { (asked(std::ptr::null(), 0, 1), altered(std::ptr::null_mut(), 0, 1, 1)) };
+    tally.compare("a null pointer", b"", asked, expected_addendum(b"", 1));
+    tally.compare("a null pointer", b"", altered, expected_alteration(b"", 1, 1, b""));
+
+    let file = sample().file();
+    for length in 0..file.len() {
+        let cut = &file[..length];
+        alter(tally, "a file cut", cut, 1, 1, cut);
+        addendum(tally, "a file cut", cut, 1);
+    }
+}
+
+/// Entry numbers inside and outside a file of so many entries.
+fn entry_numbers(entries: u64) -> Vec<u64> {
+    let outside = [0, entries + 1, 1 << 32, 1 << 32 | 1, 1 << 63, u64::MAX];
+    (1..=entries).chain(outside).collect()
+}
+
+fn every_entry(tally: &mut Tally, plan: &Plan) {
+    let file = plan.file();
+    for entry in entry_numbers(plan.entry_count() as u64) {
+        addendum(tally, "every entry", &file, entry);
+        for amount in AMOUNTS {
+            one_alteration(tally, plan, &file, entry, amount);
+        }
+    }
+}
+
+/// Alters one entry of a plan's file; what comes out has to be the file of the altered plan, which
+/// is given back. A plan that may not be altered so stays.
+fn one_alteration(tally: &mut Tally, plan: &Plan, file: &[u8], entry: u64, amount: u64) -> Plan {
+    let mut altered = plan.clone();
+    if independent::alter(&mut file.to_vec(), entry, amount).is_ok() {
+        entry_of(&mut altered, entry).expect("it was altered").amount = amount;
+    }
+    let about = format!("entry {entry}, amount {amount}");
+    alter(tally, &about, file, entry, amount, &altered.file());
+    altered
+}
+
+fn entry_of(plan: &mut Plan, entry: u64) -> Option<&mut Entry> {
+    let index = usize::try_from(entry).ok()?.checked_sub(1)?;
+    plan.batches.iter_mut().flat_map(|batch| &mut batch.entries).nth(index)
+}
+
+/// Puts an alteration to both sides; the file has to become `expected_file`.
+fn alter(
+    tally: &mut Tally,
+    about: &str,
+    file: &[u8],
+    entry: u64,
+    amount: u64,
+    expected_file: &[u8],
+) {
+    let mut lent = file.to_vec();
+    // SAFETY: the pointer comes from a slice of that length, lent for writing.
+    let mut given = unsafe { altered(lent.as_mut_ptr(), lent.len(), entry, amount) };
+    given.memory = &lent;
+    tally.compare(about, file, given, expected_alteration(file, entry, amount, expected_file));
+}
+
+/// The answer and the difference that the boundary gives for an alteration.
+///
+/// # Safety
+/// There have to be so many bytes to read and to write at `file`.
+unsafe fn altered(file: *mut u8, length: usize, entry: u64, amount: u64) -> Outcome<'static, 1> {
+    let mut difference = PATTERN as i64;
+    let answer = ach_alter(file, length, entry, amount, &mut difference);
+    Outcome { answer, numbers: [difference as u64], memory: &[] }
+}
+
+fn expected_alteration<'m>(
+    file: &[u8],
+    entry: u64,
+    amount: u64,
+    memory: &'m [u8],
+) -> Outcome<'m, 1> {
+    match independent::alter(&mut file.to_vec(), entry, amount) {
+        Ok(difference) => Outcome { answer: 0, numbers: [difference as u64], memory },
+        Err(refusal) => Outcome::refused(refusal, memory),
+    }
+}
+
+/// Asks both sides for an addendum.
+fn addendum(tally: &mut Tally, about: &str, file: &[u8], entry: u64) {
+    // SAFETY: the pointer comes from a slice of that length.
+    let given = unsafe { asked(file.as_ptr(), file.len(), entry) };
+    let about = format!("{about}, addendum of entry {entry}");
+    tally.compare(&about, file, given, expected_addendum(file, entry));
+}
+
+/// The answer, the start and the length that the boundary gives for an addendum.
+///
+/// # Safety
+/// There have to be so many bytes to read at `file`.
+unsafe fn asked(file: *const u8, length: usize, entry: u64) -> Outcome<'static, 2> {
+    let mut numbers = [PATTERN; 2];
+    let [start, text_length] = &mut numbers;
+    let answer = ach_addendum(file, length, entry, start, text_length);
+    Outcome { answer, numbers, memory: &[] }
+}
+
+fn expected_addendum(file: &[u8], entry: u64) -> Outcome<'static, 2> {
+    match independent::addendum(file, entry) {
+        Ok((start, length)) => {
+            Outcome { answer: 0, numbers: [start as u64, length as u64], memory: &[] }
+        }
+        Err(refusal) => Outcome::refused(refusal, &[]),
+    }
+}
+
+/// Amounts that take the batch's and the file's total just to the limit, and just beyond.
+fn limits(tally: &mut Tally) {
+    for code in [22, 27, 32, 37] {
+        for batches in [1, 2] {
+            for total in [999_999_999_900, LARGEST_TOTAL - 1, LARGEST_TOTAL] {
+                let mut plan = near_limit(code, total, batches);
+                plan.batches.push(other_side(&plan, code));
+                let file = plan.file();
+                let last = plan.entry_count() as u64;
+                for entry in [1, 50, 51, 52, 100, 101, last - 1, last] {
+                    alter_near_limit(tally, &plan, &file, entry);
+                }
+            }
+        }
+    }
+}
+
+/// A batch that fills up the side which the code is not on.
+fn other_side(plan: &Plan, code: u32) -> Batch {
+    let other = if is_credit(code) { 37 } else { 22 };
+    let mut batch = near_limit(other, 999_999_999_950, 1).batches.remove(0);
+    batch.number = plan.batches.len() as u32 + 1;
+    batch
+}
+
+fn alter_near_limit(tally: &mut Tally, plan: &Plan, file: &[u8], entry: u64) {
+    for amount in AMOUNTS.into_iter().chain(amounts_at_limit(plan, entry)) {
+        one_alteration(tally, plan, file, entry, amount);
+    }
+}
+
+/// The amounts with which the file's total, and the batch's, come to the limit and one beyond.
+fn amounts_at_limit(plan: &Plan, entry: u64) -> Vec<u64> {
+    let mut plan = plan.clone();
+    let Some(&mut Entry { code, amount, .. }) = entry_of(&mut plan, entry) else {
+        return Vec::new();
+    };
+    let total = |batches: &[Batch]| -> u64 {
+        let entries = batches.iter().flat_map(|batch| &batch.entries);
+        let of_side = entries.filter(|entry| is_credit(entry.code) == is_credit(code));
+        of_side.map(|entry| entry.amount).sum()
+    };
+    let mut totals = vec![total(&plan.batches)];
+    totals.extend(plan.batches.iter().map(|batch| total(std::slice::from_ref(batch))));
+    let at_limit = totals.iter().map(|total| LARGEST_TOTAL + amount - total);
+    at_limit.flat_map(|amount| [amount, amount + 1]).collect()
+}
+
+fn run_of_alterations(tally: &mut Tally, random: &mut Random, mut plan: Plan) {
+    let entries = plan.entry_count() as u64;
+    for _ in 0..1 + random.below(LONGEST_RUN) {
+        let file = plan.file();
+        let entry = match random.below(10) {
+            0 => *random.pick(&entry_numbers(entries)),
+            1 => entries,
+            _ => random.between(1, entries),
+        };
+        let amount = match random.below(6) {
+            0 => *random.pick(&AMOUNTS),
+            1 => random.pick(&[amounts_at_limit(&plan, entry), vec![1]].concat()).to_owned(),
+            2 => entry_of(&mut plan, entry).map_or(0, |entry| entry.amount),
+            3 => 0,
+            _ => random.between(1, 9_999_999_999),
+        };
+        plan = one_alteration(tally, &plan, &file, entry, amount);
+        addendum(tally, "in a run", &file, entry);
+    }
+}
+
+/// The file's own refusals come before those of entry and amount.
+fn damaged_file(tally: &mut Tally, random: &mut Random) {
+    let whole = plan(random, 3, 4).file();
+    let file = random_damage(random, &whole);
+    let entry = *random.pick(&[0, 1, 2, 3, u64::MAX]);
+    let amount = *random.pick(&AMOUNTS);
+    let mut expected_file = file.clone();
+    let _ = independent::alter(&mut expected_file, entry, amount);
+    alter(tally, "a damaged file", &file, entry, amount, &expected_file);
+    addendum(tally, "a damaged file", &file, entry);
+}

@@ -1,0 +1,218 @@
+//! Reading and writing: the same table or file in rooms of every size, and nothing else touched.
+
+use crate::tally::{Outcome, Tally, PATTERN};
+use crate::Run;
+use ach::boundary::{ach_read, ach_write};
+use generate::damage::{random_damage, resealed};
+use generate::tables::{
+    of_empty_batches, random_row_damage, shape_damage, with_empty_batch, with_last_entry_repeated,
+};
+use generate::{big_file, near_limit, plan, sample, Batch, BigFile, Plan, Random};
+use independent::Refusal;
+
+const DEFAULT_CASES: u64 = 20_000;
+
+/// What the lent room holds before the call.
+const PATTERN_BYTE: u8 = 0xA5;
+const NO_ROOM: Refusal = Refusal { number: 23, record: 0, field: 0 };
+
+/// The shape of both functions: input and its length, room and its length, the result's length.
+type Call = unsafe extern "C" fn(*const u8, usize, *mut u8, usize, *mut u64) -> u64;
+
+pub fn compare(run: &Run, tally: &mut Tally) {
+    let cases = run.cases.unwrap_or(DEFAULT_CASES);
+    let mut random = Random::new(run.seed);
+    bad_inputs(tally);
+    let mut bases = vec![sample(), two_batches()];
+    bases.extend((0..4).map(|_| plan(&mut random, 3, 4)));
+    for base in &bases {
+        damaged_shapes(tally, &base.table());
+        every_byte(tally, &base.table());
+    }
+    limits(tally);
+    random_plans(tally, &mut random, cases);
+    damaged_files(tally, &mut random, cases);
+    damaged_tables(tally, &mut random, cases);
+    biggest(tally);
+    too_many_records(tally);
+}
+
+fn read(tally: &mut Tally, about: &str, file: &[u8]) {
+    in_all_rooms(tally, about, ach_read, file, &independent::read(file));
+}
+
+fn write(tally: &mut Tally, about: &str, table: &[u8]) {
+    in_all_rooms(tally, about, ach_write, table, &independent::write(table));
+}
+
+/// Rooms of none, one too few, just enough, one more and many more bytes than the result needs;
+/// for a refusal, none and plenty.
+fn in_all_rooms(
+    tally: &mut Tally,
+    about: &str,
+    call: Call,
+    input: &[u8],
+    result: &Result<Vec<u8>, Refusal>,
+) {
+    let rooms = match result {
+        Ok(bytes) => {
+            let need = bytes.len();
+            vec![0, need - 1, need, need + 1, 2 * need + 1_000]
+        }
+        Err(_) => vec![0, 2 * input.len() + 2_000],
+    };
+    for room in rooms {
+        in_room(tally, about, call, input, result, room);
+    }
+}
+
+fn in_room(
+    tally: &mut Tally,
+    about: &str,
+    call: Call,
+    input: &[u8],
+    result: &Result<Vec<u8>, Refusal>,
+    room: usize,
+) {
+    let mut lent = vec![PATTERN_BYTE; room];
+    let mut length = PATTERN;
+    // SAFETY: both pointers come from slices of the lengths given.
+    let answer = unsafe { call(input.as_ptr(), input.len(), lent.as_mut_ptr(), room, &mut length) };
+    let given = Outcome { answer, numbers: [length], memory: &lent };
+
+    let mut memory = vec![PATTERN_BYTE; room];
+    let expected = match result {
+        Ok(bytes) if bytes.len() <= room => {
+            memory[..bytes.len()].copy_from_slice(bytes);
+            Outcome { answer: 0, numbers: [bytes.len() as u64], memory: &memory }
+        }
+        Ok(_) => Outcome::refused(NO_ROOM, &memory),
+        Err(refusal) => Outcome::refused(*refusal, &memory),
+    };
+    tally.compare(&format!("{about}, room {room}"), input, given, expected);
+}
+
+fn bad_inputs(tally: &mut Tally) {
+    for (call, number) in [(ach_read as Call, 1), (ach_write as Call, 24)] {
+        let mut length = PATTERN;
+        // SAFETY: of no bytes none is read or written, so the pointers to them may be null.
+        let answer = unsafe { call(std::ptr::null(), 0, std::ptr::null_mut(), 0, &mut length) };
+        let given = Outcome { answer, numbers: [length], memory: &[] };
+        let refusal = Refusal { number, record: 0, field: 0 };
+        tally.compare("null pointers", b"", given, Outcome::refused(refusal, &[]));
+    }
+    let (file, table) = (sample().file(), sample().table());
+    for length in 0..=table.len() {
+        write(tally, "a table cut", &table[..length]);
+    }
+    for length in 0..=file.len() {
+        read(tally, "a file cut", &file[..length]);
+    }
+    for byte in 0..=255 {
+        for length in [1, 6, 109, 470, 940] {
+            read(tally, "one byte throughout", &vec![byte; length]);
+            write(tally, "one byte throughout", &vec![byte; length]);
+        }
+    }
+}
+
+fn two_batches() -> Plan {
+    let mut plan = sample();
+    let second = Batch { number: 2, ..plan.batches[0].clone() };
+    plan.batches.push(second);
+    plan
+}
+
+fn damaged_shapes(tally: &mut Tally, table: &[u8]) {
+    write(tally, "a table in order", table);
+    for damaged in shape_damage(table) {
+        write(tally, "a table of doubtful shape", &damaged);
+    }
+    for index in 0..2 {
+        write(tally, "an empty batch", &with_empty_batch(table, index));
+    }
+    for times in [1, 2, 7] {
+        write(tally, "an entry repeated", &with_last_entry_repeated(table, times));
+    }
+    for batches in 0..4 {
+        write(tally, "empty batches", &of_empty_batches(table, batches));
+    }
+}
+
+/// Every byte of a table replaced by some that are not digits, not text, or near them.
+fn every_byte(tally: &mut Tally, table: &[u8]) {
+    let mut damaged = table.to_vec();
+    for place in 0..table.len() {
+        for byte in [b' ', b'/', b'0', b'1', b'9', b':', b'A', b'a', b'~', 0x7F] {
+            damaged[place] = byte;
+            write(tally, "a byte of a table", &damaged);
+        }
+        damaged[place] = table[place];
+    }
+}
+
+fn limits(tally: &mut Tally) {
+    for code in [22, 27, 32, 37] {
+        for total in [999_999_999_900, 999_999_999_999, 1_000_000_000_000, 1_009_999_999_899] {
+            for batches in [1, 2] {
+                let plan = near_limit(code, total, batches);
+                write(tally, "a total near its limit", &plan.table());
+                read(tally, "a total near its limit", &plan.file());
+            }
+        }
+    }
+}
+
+fn random_plans(tally: &mut Tally, random: &mut Random, cases: u64) {
+    for case in 0..cases / 10 {
+        let (most_batches, most_entries) = if case % 50 == 0 { (20, 40) } else { (4, 8) };
+        let plan = plan(random, most_batches, most_entries);
+        read(tally, "a random file", &plan.file());
+        write(tally, "a random table", &plan.table());
+    }
+}
+
+fn damaged_files(tally: &mut Tally, random: &mut Random, cases: u64) {
+    for _ in 0..cases / 4 {
+        let file = plan(random, 3, 4).file();
+        let mut damaged = random_damage(random, &file);
+        if random.one_in(2) {
+            damaged = resealed(&damaged);
+        }
+        read(tally, "a random file, damaged", &damaged);
+    }
+}
+
+fn damaged_tables(tally: &mut Tally, random: &mut Random, cases: u64) {
+    for _ in 0..cases / 4 {
+        let mut table = plan(random, 3, 4).table();
+        for _ in 0..1 + random.below(2) {
+            table = random_row_damage(random, &table);
+        }
+        write(tally, "a random table, damaged", &table);
+    }
+}
+
+/// A million records in one batch, both ways, in a room that is just large enough or just not.
+fn biggest(tally: &mut Tally) {
+    let shape = BigFile { records: 1_000_000, entries_in_batch: 1_000_000, addendum_every: 0 };
+    let file = big_file(&shape);
+    let table = independent::read(&file).expect("a million records are a file");
+    let longer = with_last_entry_repeated(&table, 1);
+    let about = "a million records";
+    for short in [1, 0] {
+        let room = table.len() - short;
+        in_room(tally, about, ach_read, &file, &Ok(table.clone()), room);
+        let room = file.len() - short;
+        in_room(tally, about, ach_write, &table, &Ok(file.clone()), room);
+    }
+    write(tally, "a million records and one", &longer);
+}
+
+/// Batches without entries, as many as just fit a file and more.
+fn too_many_records(tally: &mut Tally) {
+    for batches in [499_999, 500_000, 999_999] {
+        let table = of_empty_batches(&sample().table(), batches);
+        write(tally, "very many batches", &table);
+    }
+}

@@ -1,0 +1,18 @@
+//! ACH files and pay tables for tests, the same from the same seed: files in order, files at the
+//! edge of a rule, and damaged ones.
+//!
+//! Nothing here asks an implementation of the rules. A [`Plan`] renders its file and its table,
+//! controls included, from the values somebody chose.
+
+pub mod columns;
+pub mod damage;
+mod plan;
+mod random;
+mod shapes;
+pub mod tables;
+
+pub use plan::{is_credit, is_prenote, routing_check_digit, Batch, Builder, Entry, Header, Plan};
+pub use random::Random;
+pub use shapes::{big_file, near_limit, plan, sample, BigFile, CODES};
+
+pub const RECORD: usize = 94;

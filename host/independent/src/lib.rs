@@ -1,0 +1,17 @@
+//! Checking, reading, writing and altering ACH payment files, in plain Rust.
+//!
+//! Written from the scope paper alone. The proved library of Qalarimo ACH is tested against this
+//! crate, and timed against it, so nothing here is taken from there.
+
+mod alter;
+mod check;
+mod code;
+mod field;
+mod layout;
+mod outcome;
+mod table;
+
+pub use alter::{addendum, alter};
+pub use check::check;
+pub use outcome::{reason, Acceptance, Refusal};
+pub use table::{read, read_into, write, write_into};
