@@ -1,0 +1,99 @@
+// The public functions: every one takes any bytes, does its own checking, and grants or names the first refusal.
+use layout::Answer;
+use layout::Checked;
+use layout::Fault;
+use layout::RecordNo;
+use layout::Refusal;
+use records::State;
+use records::order;
+use records::tally;
+use rules::Mark;
+use rules::field;
+ghost use Prim.Native.Nat.{_+_, _<_};
+ghost use mathlib.Core.Path.{_≡_};
+ghost use Rattle.records.specs.Run.{refused, finished, checkedOf};
+ghost use Rattle.layout.specs.Fields.{recordColumns};
+
+fn refused(fault: Fault, number: u64, k: u64) -> Checked
+    ensures { λ r. ⌜ r ≡ refused fault number k ⌝ }
+{
+    Checked {
+        answer: Answer::Refused(Refusal {
+            fault,
+            record: RecordNo(number),
+            field: k,
+        }),
+        batches: 0,
+        entries: 0,
+        addenda: 0,
+        debit: 0,
+        credit: 0,
+        bycode: [0u64; 16],
+    }
+}
+
+// The answer where the data end.
+fn finished(st: State) -> Checked
+    requires { ⌜ st .sums .records < 10000000 ⌝ }
+    ensures { λ r. ⌜ r ≡ finished st ⌝ }
+{
+    let place = st.place;
+    let sums = st.sums;
+    let bycode = st.bycode;
+    if !order::complete(place, sums.records) {
+        return refused(Fault::Ended, sums.records + 1, 0);
+    }
+    Checked {
+        answer: Answer::Granted,
+        batches: sums.batches,
+        entries: sums.entries,
+        addenda: sums.addenda,
+        debit: sums.debit,
+        credit: sums.credit,
+        bycode,
+    }
+}
+
+// A file is accepted exactly if it keeps the rules; else the first refusal is named.
+pub fn check(file: &[u8]) -> Checked
+    ensures { λ r. ⌜ r ≡ checkedOf recordColumns (now (file .entry)) ⌝ }
+{
+    let size = file.len();
+    if size < 1 {
+        return refused(Fault::Length, 0, 0);
+    }
+    if size % 94 != 0 {
+        return refused(Fault::Length, 0, 0);
+    }
+    if 94_000_000 < size {
+        return refused(Fault::Length, 0, 0);
+    }
+    let mut out = refused(Fault::Length, 0, 0);
+    let mut st = tally::start();
+    let mut at = 0;
+    'records: loop {
+        if at == size {
+            out = finished(st);
+            break 'records;
+        }
+        let rec = &file[at..at + 94];
+        let place = st.place;
+        let sums = st.sums;
+        let header = st.header;
+        let line = order::line_at(place, sums.records, rec[0]);
+        let count = layout::rows_in(line);
+        let mut number = layout::first_field(line);
+        let mut k = 0;
+        while k < count {
+            if let Mark::Wrong(fault) = field::field(line, k, sums, &header, rec) {
+                out = refused(fault, sums.records + 1, number);
+                break 'records;
+            }
+            number += 1;
+            k += 1;
+        }
+        st = tally::tally(st, line, rec);
+        at += 94;
+    }
+    out
+}
