@@ -1,0 +1,52 @@
+-- Why an answer's code fits, and what twenty-one stores make of a lent array.
+-- Assumes nothing.
+use Prim.Native.Nat.{ℕ, _≤_}
+use mathlib.Core.Path.{_≡_, refl, sym}
+use mathlib.Core.List.{List, [], _∷_}
+use lib.Dec.{lit≤}
+use lib.Seq.{sets}
+use Rattle.text.proofs.SetLaws.{sets-append}
+use Rattle.layout.specs.declared.Answer.{Answer}
+use Rattle.layout.specs.declared.Checked.{Checked}
+use Rattle.layout.specs.declared.Refusal.{Refusal}
+use Rattle.layout.specs.declared.Fault.{Fault}
+use Rattle.layout.specs.Paper.{numberOf}
+use Rattle.ach_c.specs.Boundary.{codeOfAnswer, numbersOf, numbersLeft}
+
+pub number-le : (f : Fault) → numberOf f ≤ 25
+number-le Fault.Length = lit≤ tt
+number-le Fault.Ended = lit≤ tt
+number-le Fault.Misplaced = lit≤ tt
+number-le Fault.Past = lit≤ tt
+number-le Fault.Fixed = lit≤ tt
+number-le Fault.Digits = lit≤ tt
+number-le Fault.Text = lit≤ tt
+number-le Fault.Blank = lit≤ tt
+number-le Fault.Leading = lit≤ tt
+number-le Fault.Date = lit≤ tt
+number-le Fault.Value = lit≤ tt
+number-le Fault.CheckDigit = lit≤ tt
+number-le Fault.Bank = lit≤ tt
+number-le Fault.Amount = lit≤ tt
+number-le Fault.Side = lit≤ tt
+number-le Fault.Trace = lit≤ tt
+number-le Fault.BatchNumber = lit≤ tt
+number-le Fault.Count = lit≤ tt
+number-le Fault.Hash = lit≤ tt
+number-le Fault.Limit = lit≤ tt
+number-le Fault.Total = lit≤ tt
+number-le Fault.Batch = lit≤ tt
+number-le Fault.Room = lit≤ tt
+number-le Fault.Shape = lit≤ tt
+number-le Fault.NoEntry = lit≤ tt
+
+-- what a granted check leaves in the lent numbers
+pub granted-left : (c d : Checked) (lent : List ℕ) → c ≡ d → c .answer ≡ Answer.Granted
+    → (0 ≡ codeOfAnswer (d .answer))
+    × (sets (sets lent 0 (c .batches ∷ c .entries ∷ c .addenda ∷ c .debit ∷ c .credit ∷ [])) 5 (c .bycode) ≡ numbersLeft (d .answer) (numbersOf d) lent)
+granted-left c d lent e g =
+    rw (← e, g) (refl, sym (sets-append lent 0 (c .batches ∷ c .entries ∷ c .addenda ∷ c .debit ∷ c .credit ∷ []) (c .bycode)))
+
+-- and a refused one leaves them as they were
+pub refused-left : (c d : Checked) (lent : List ℕ) (r : Refusal) → c ≡ d → c .answer ≡ Answer.Refused r → lent ≡ numbersLeft (d .answer) (numbersOf d) lent
+refused-left c d lent r e g = rw (← e, g) refl
