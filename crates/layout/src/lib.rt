@@ -131,7 +131,7 @@ pub enum Kind {
     Misplaced,
     Past,
     Nines,
-    Fixed(u64),
+    Fixed(u8),
     Blanks,
     Digits,
     Optional,
@@ -139,7 +139,7 @@ pub enum Kind {
     Date,
     Own(Own),
     Near(Near),
-    AsBatch(usize),
+    AsBatch(u8),
     Count(Sum),
     Hash(Sum),
     Total(Sum),
@@ -147,8 +147,8 @@ pub enum Kind {
 
 // One row of a field table: first column, last column, kind.
 pub struct Row {
-    pub first: usize,
-    pub last: usize,
+    pub first: u8,
+    pub last: u8,
     pub kind: Kind,
 }
 

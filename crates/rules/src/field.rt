@@ -92,6 +92,12 @@ fn as_batch(header: &[u8], column: usize, p: &[u8]) -> Mark
     Mark::Right
 }
 
+fn place(column: u8) -> usize
+    ensures { λ r. ⌜ r ≡ column ⌝ }
+{
+    column as usize
+}
+
 fn kind_check(sums: Sums, header: &[u8], rec: &[u8], kind: Kind, p: &[u8]) -> Mark
     requires { ⌜ (length (now header) ≡ 94) × (length (now rec) ≡ 94) × (kindFits kind (length (now p)) ≡ true) × Small sums ⌝ }
     ensures { λ r. ⌜ r ≡ kindRule sums (now (header .entry)) (now (rec .entry)) kind (now (p .entry)) ⌝ }
@@ -101,7 +107,7 @@ fn kind_check(sums: Sums, header: &[u8], rec: &[u8], kind: Kind, p: &[u8]) -> Ma
         Kind::Misplaced => Mark::Wrong(Fault::Misplaced),
         Kind::Past => Mark::Wrong(Fault::Past),
         Kind::Nines => kinds::nine_filled(p),
-        Kind::Fixed(n) => kinds::fixed(n, p),
+        Kind::Fixed(n) => kinds::fixed(text::wide(n), p),
         Kind::Blanks => kinds::blank_filled(p),
         Kind::Digits => kinds::all_digits(p),
         Kind::Optional => kinds::optional_text(p),
@@ -109,7 +115,7 @@ fn kind_check(sums: Sums, header: &[u8], rec: &[u8], kind: Kind, p: &[u8]) -> Ma
         Kind::Date => kinds::date(p),
         Kind::Own(rule) => own::own(rule, p),
         Kind::Near(rule) => near::near(sums, header, rec, rule, p),
-        Kind::AsBatch(column) => as_batch(header, column, p),
+        Kind::AsBatch(column) => as_batch(header, place(column), p),
         Kind::Count(which) => count_rule(sum_of(sums, which), p),
         Kind::Hash(which) => hash_rule(sum_of(sums, which), p),
         Kind::Total(which) => total_rule(sum_of(sums, which), p),
@@ -122,8 +128,8 @@ pub fn field(line: Line, k: usize, sums: Sums, header: &[u8], rec: &[u8]) -> Mar
     ensures { λ r. ⌜ r ≡ fieldOf sums (now (header .entry)) (now (rec .entry)) (getD (rowsOf line) k noRow) ⌝ }
 {
     let row = layout::row_of(line, k);
-    let from = row.first - 1;
-    let to = row.last;
+    let from = place(row.first) - 1;
+    let to = place(row.last);
     let kind = row.kind;
     kind_check(sums, header, rec, kind, &rec[from..to])
 }

@@ -1,0 +1,12 @@
+// Checks standard input, one line. More than 64,860 bytes are refused unchecked.
+use libc::STDIN_FILENO;
+
+fn main() {
+    let mut buffer = io::large_buffer();
+    let n = io::read_full(STDIN_FILENO, &mut buffer);
+    if 64860 < n {
+        lines::print_refusal(23, 0, 0);
+        return;
+    }
+    lines::print_checked(ach::check(&buffer[..n]));
+}
