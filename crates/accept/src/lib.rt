@@ -6,6 +6,7 @@ use layout::RecordNo;
 use layout::Refusal;
 use records::State;
 use records::order;
+use records::quick;
 use records::tally;
 use rules::Mark;
 use rules::field;
@@ -83,7 +84,7 @@ pub fn check(file: &[u8]) -> Checked
         let line = order::line_at(place, sums.records, rec[0]);
         let count = layout::rows_in(line);
         let mut number = layout::first_field(line);
-        let mut k = 0;
+        let mut k = quick::walk_from(line, sums, &header, rec);
         while k < count {
             if let Mark::Wrong(fault) = field::field(line, k, sums, &header, rec) {
                 out = refused(fault, sums.records + 1, number);

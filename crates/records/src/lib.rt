@@ -3,6 +3,7 @@ use layout::Fault;
 use rules::Sums;
 
 pub mod order;
+pub mod quick;
 pub mod step;
 pub mod tally;
 

@@ -3,6 +3,7 @@ use layout::Fault;
 
 pub mod codes;
 pub mod field;
+pub mod quick;
 mod kinds;
 pub mod near;
 mod own;

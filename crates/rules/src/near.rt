@@ -61,7 +61,7 @@ pub fn batch_number(header: &[u8]) -> u64
     text::number(&header[87..94])
 }
 
-fn code_rule(header: &[u8], p: &[u8]) -> Mark
+pub(crate) fn code_rule(header: &[u8], p: &[u8]) -> Mark
     requires { ⌜ (length (now header) ≡ 94) × (length (now p) ≤ 18) ⌝ }
     ensures { λ r. ⌜ r ≡ codeRule (now (header .entry)) (now (p .entry)) ⌝ }
 {
@@ -78,7 +78,7 @@ fn code_rule(header: &[u8], p: &[u8]) -> Mark
     Mark::Right
 }
 
-fn check_digit_rule(rec: &[u8], p: &[u8]) -> Mark
+pub(crate) fn check_digit_rule(rec: &[u8], p: &[u8]) -> Mark
     requires { ⌜ (length (now rec) ≡ 94) × (length (now p) ≤ 18) ⌝ }
     ensures { λ r. ⌜ r ≡ checkDigitRule (now (rec .entry)) (now (p .entry)) ⌝ }
 {
@@ -91,7 +91,7 @@ fn check_digit_rule(rec: &[u8], p: &[u8]) -> Mark
     Mark::Right
 }
 
-fn amount_rule(rec: &[u8], p: &[u8]) -> Mark
+pub(crate) fn amount_rule(rec: &[u8], p: &[u8]) -> Mark
     requires { ⌜ (length (now rec) ≡ 94) × (length (now p) ≤ 18) ⌝ }
     ensures { λ r. ⌜ r ≡ amountRule (now (rec .entry)) (now (p .entry)) ⌝ }
 {
@@ -114,7 +114,7 @@ fn trace_follows(sums: Sums, n: u64) -> bool
     n == sums.trace + 1
 }
 
-fn trace_rule(sums: Sums, header: &[u8], p: &[u8]) -> Mark
+pub(crate) fn trace_rule(sums: Sums, header: &[u8], p: &[u8]) -> Mark
     requires { ⌜ (length (now header) ≡ 94) × (length (now p) ≡ 15) × (sums .trace < 10 ^ 18) ⌝ }
     ensures { λ r. ⌜ r ≡ traceRule sums (now (header .entry)) (now (p .entry)) ⌝ }
 {
@@ -130,7 +130,7 @@ fn trace_rule(sums: Sums, header: &[u8], p: &[u8]) -> Mark
     Mark::Right
 }
 
-fn entry_trace_rule(sums: Sums, p: &[u8]) -> Mark
+pub(crate) fn entry_trace_rule(sums: Sums, p: &[u8]) -> Mark
     requires { ⌜ length (now p) ≤ 18 ⌝ }
     ensures { λ r. ⌜ r ≡ entryTraceRule sums (now (p .entry)) ⌝ }
 {

@@ -118,7 +118,7 @@ fn entry_class(p: &[u8]) -> Mark
     Mark::Wrong(Fault::Value)
 }
 
-fn bank(p: &[u8]) -> Mark
+pub(crate) fn bank(p: &[u8]) -> Mark
     ensures { λ r. ⌜ r ≡ bank (now (p .entry)) ⌝ }
 {
     if !text::digits(p) {
@@ -164,7 +164,7 @@ fn unbroken(p: &[u8]) -> bool
     all
 }
 
-fn account(p: &[u8]) -> Mark
+pub(crate) fn account(p: &[u8]) -> Mark
     ensures { λ r. ⌜ r ≡ account (now (p .entry)) ⌝ }
 {
     if !all_account(p) {
@@ -179,7 +179,7 @@ fn account(p: &[u8]) -> Mark
     Mark::Right
 }
 
-fn flag(p: &[u8]) -> Mark
+pub(crate) fn flag(p: &[u8]) -> Mark
     ensures { λ r. ⌜ r ≡ flag (now (p .entry)) ⌝ }
 {
     let b = kinds::first(p);

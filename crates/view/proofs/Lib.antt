@@ -1,3 +1,4 @@
+pub mod Across
 pub mod Whole
 pub mod Formed
 pub mod Lists
@@ -16,3 +17,8 @@ pub mod BridgeComplete
 pub mod Bridge
 pub mod Own
 pub mod Refusals
+pub mod Edges
+pub mod Answers
+pub mod RoundTrips
+pub mod AmendKeeps
+pub mod Alter

@@ -1,19 +1,25 @@
-use Prim.Native.Nat.{ℕ}
+-- The worked file: "one 220 PPD batch, two 22 entries at 322070381 of 10000 and 2550 cents, the second with an addendum; 940 bytes,
+-- table 470 bytes." What the definitions say of it, and of the same file with a few bytes changed.
+use Prim.Native.Nat.{ℕ, _+_, _-_, _*_}
 use mathlib.Core.Path.{_≡_, refl}
 use mathlib.Core.Bool.{true}
-use mathlib.Core.List.{List, [], _∷_}
+use mathlib.Core.List.{List, [], _∷_, _++_}
 use lib.IntN.{pos}
+use lib.ListN.{length, take, replicate}
+use lib.Seq.{sets}
 use Rattle.layout.specs.declared.Answer.{Answer}
-use Rattle.records.specs.Run.{checkedOf, runFrom, fieldsFrom, refused}
+use Rattle.layout.specs.Paper.{Paper, paperOf}
+use Rattle.records.specs.Run.{checkedOf, runFrom, fieldsFrom}
 use Rattle.text.specs.Decimal.{every, valueFrom, render}
 use Rattle.text.specs.Same.{sameBytes}
 use Rattle.text.specs.Rows.{rows, joined}
 use Rattle.rules.specs.Kinds.{weighed, unbroken}
-use Rattle.view.specs.View.{sumOver, fileOf, viewOf}
+use Rattle.view.specs.View.{sumOver, fillerRecord}
 use Rattle.view.specs.Table.{withEntries, withAddenda, everyRow, shaped, formed, tableOf}
 use Rattle.view.specs.Outcome.{alterOf, spotFrom, amendEntry, amendBatch, alteredTable, addendumOf}
 
-abbrev whole : List ℕ
+-- samples/whole.ach
+abbrev pub whole : List ℕ
 whole =
     49 ∷ 48 ∷ 49 ∷ 32 ∷ 51 ∷ 50 ∷ 50 ∷ 48 ∷ 55 ∷ 48 ∷ 51 ∷ 56 ∷ 49 ∷ 32 ∷ 49 ∷ 50 ∷ 51 ∷ 52 ∷ 53 ∷ 54 ∷ 55 ∷ 56 ∷ 57 ∷ 50 ∷
     54 ∷ 49 ∷ 49 ∷ 49 ∷ 51 ∷ 48 ∷ 57 ∷ 51 ∷ 48 ∷ 65 ∷ 48 ∷ 57 ∷ 52 ∷ 49 ∷ 48 ∷ 49 ∷ 72 ∷ 65 ∷ 82 ∷ 66 ∷ 79 ∷ 82 ∷ 32 ∷ 67 ∷
@@ -56,7 +62,8 @@ whole =
     57 ∷ 57 ∷ 57 ∷ 57 ∷ 57 ∷ 57 ∷ 57 ∷ 57 ∷ 57 ∷ 57 ∷ 57 ∷ 57 ∷ 57 ∷ 57 ∷ 57 ∷ 57 ∷ 57 ∷ 57 ∷ 57 ∷ 57 ∷ 57 ∷ 57 ∷ 57 ∷ 57 ∷
     57 ∷ 57 ∷ 57 ∷ 57 ∷ []
 
-abbrev table : List ℕ
+-- samples/whole.table: its pay table
+abbrev pub table : List ℕ
 table =
     48 ∷ 48 ∷ 48 ∷ 48 ∷ 48 ∷ 49 ∷ 32 ∷ 51 ∷ 50 ∷ 50 ∷ 48 ∷ 55 ∷ 48 ∷ 51 ∷ 56 ∷ 49 ∷ 32 ∷ 49 ∷ 50 ∷ 51 ∷ 52 ∷ 53 ∷ 54 ∷ 55 ∷
     56 ∷ 57 ∷ 50 ∷ 54 ∷ 49 ∷ 49 ∷ 49 ∷ 51 ∷ 48 ∷ 57 ∷ 51 ∷ 48 ∷ 65 ∷ 72 ∷ 65 ∷ 82 ∷ 66 ∷ 79 ∷ 82 ∷ 32 ∷ 67 ∷ 79 ∷ 77 ∷ 77 ∷
@@ -79,14 +86,158 @@ table =
     32 ∷ 32 ∷ 32 ∷ 32 ∷ 32 ∷ 32 ∷ 32 ∷ 32 ∷ 32 ∷ 32 ∷ 32 ∷ 32 ∷ 32 ∷ 32 ∷ 32 ∷ 32 ∷ 32 ∷ 32 ∷ 32 ∷ 32 ∷ 32 ∷ 32 ∷ 32 ∷ 32 ∷
     32 ∷ 32 ∷ 32 ∷ 32 ∷ 32 ∷ 32 ∷ 32 ∷ 32 ∷ 32 ∷ 32 ∷ 32 ∷ 32 ∷ 32 ∷ 32 ∷ []
 
-whole-accepted : (checkedOf 94 whole .answer ≡ Answer.Granted) × (checkedOf 94 whole .entries ≡ 2) × (checkedOf 94 whole .credit ≡ 12550)
+-- it is accepted, with its numbers; by code there are two entries of 22 with 12550 cents, and nothing else
+pub whole-accepted : checkedOf 94 whole
+    ≡ record {
+      answer = Answer.Granted;
+      batches = 1;
+      entries = 2;
+      addenda = 1;
+      debit = 0;
+      credit = 12550;
+      bycode = 2 ∷ 12550 ∷ replicate 14 0;
+    }
 unfolding runFrom fieldsFrom every valueFrom sameBytes rows weighed unbroken
-whole-accepted = (refl, refl, refl)
+whole-accepted = refl
 
-whole-table : (tableOf 94 whole ≡ table) × (formed table ≡ whole) × (shaped table ≡ true)
+-- 940 bytes, table 470 bytes
+pub whole-sizes : (length whole ≡ 940) × (length table ≡ 470)
+whole-sizes = (refl, refl)
+
+-- the one is the other's table, and is formed of it
+pub whole-table : (tableOf 94 whole ≡ table) × (formed table ≡ whole) × (shaped table ≡ true)
 unfolding every valueFrom rows joined render sumOver withEntries withAddenda everyRow
 whole-table = (refl, refl, refl)
 
-whole-altered : (alterOf 94 whole 2 2551 .gives .answer ≡ Answer.Granted) × (alterOf 94 whole 2 2551 .gives .difference ≡ pos 1) × (alterOf 94 whole 2 2551 .leaves ≡ formed (alteredTable table 2 2551)) × (addendumOf 94 whole 2 ≡ record { from = 379; size = 80 })
+-- one cent more in entry 2: granted, and the file is that of the altered table; the addendum of entry 2 is columns 4-83 of record 5
+pub whole-altered : (alterOf 94 whole 2 2551 .gives .answer ≡ Answer.Granted) × (alterOf 94 whole 2 2551 .gives .difference ≡ pos 1) × (alterOf 94 whole 2 2551 .leaves ≡ formed (alteredTable table 2 2551)) × (addendumOf 94 whole 2 ≡ record { from = 379; size = 80 })
 unfolding runFrom fieldsFrom every valueFrom sameBytes rows weighed unbroken joined render sumOver withEntries withAddenda everyRow spotFrom amendEntry amendBatch
 whole-altered = (refl, refl, refl, refl)
+
+-- ---- the same file with a few bytes changed
+
+-- these bytes in record n, from column c on
+abbrev pub damaged : ℕ → ℕ → List ℕ → List ℕ
+damaged n c bytes = sets whole (94 * (n - 1) + (c - 1)) bytes
+
+-- what the paper prints of a file: number, record, field
+abbrev pub printed : List ℕ → Paper
+printed f = paperOf (checkedOf 94 f .answer)
+
+abbrev pub paper : ℕ → ℕ → ℕ → Paper
+paper n r f = record { number = n; record-no = r; field-no = f }
+
+pub record Damages : Type 0 where
+  -- no byte at all; the last byte gone; a line feed behind the last
+  pub empty : printed [] ≡ paper 1 0 0
+  pub short : printed (take 939 whole) ≡ paper 1 0 0
+  pub line-feed : printed (whole ++ (10 ∷ [])) ≡ paper 1 0 0
+  -- the first record alone; the last filler gone
+  pub ended : printed (take 94 whole) ≡ paper 2 2 0
+  pub unfilled : printed (take 846 whole) ≡ paper 2 10 0
+  -- an addendum where an entry is due; an entry with '0' in column 79 that a 7 follows; a file control where the batch still lacks its 8
+  pub misplaced : printed (damaged 3 1 (55 ∷ [])) ≡ paper 3 3 1
+  pub unflagged : printed (damaged 4 79 (48 ∷ [])) ≡ paper 3 5 1
+  pub open-batch : printed (damaged 6 1 (57 ∷ [])) ≡ paper 3 6 1
+  -- a filler more
+  pub past : printed (whole ++ fillerRecord) ≡ paper 4 11 0
+  -- '02' for '01'; a filler whose last byte is '8', and one whose first is
+  pub fixed : printed (damaged 1 3 (50 ∷ [])) ≡ paper 5 1 2
+  pub filler : printed (damaged 9 94 (56 ∷ [])) ≡ paper 5 9 0
+  pub filler-type : printed (damaged 8 1 (56 ∷ [])) ≡ paper 5 8 0
+  -- 'A' in an amount
+  pub digits : printed (damaged 3 30 (65 ∷ [])) ≡ paper 6 3 6
+  -- 'l' in the company's name; the name all blank; a blank in front of it
+  pub text : printed (damaged 2 5 (108 ∷ [])) ≡ paper 7 2 3
+  pub blank : printed (damaged 2 5 (replicate 16 32)) ≡ paper 8 2 3
+  pub leading : printed (damaged 2 5 (32 ∷ [])) ≡ paper 9 2 3
+  -- 261131 for 261113; 2430 for 0930
+  pub date : printed (damaged 1 28 (51 ∷ 49 ∷ [])) ≡ paper 10 1 5
+  pub time : printed (damaged 1 30 (50 ∷ 52 ∷ [])) ≡ paper 10 1 6
+  -- WEB for PPD
+  pub value : printed (damaged 2 51 (87 ∷ 69 ∷ 66 ∷ [])) ≡ paper 11 2 6
+  -- check digit 2 for 1, of the entry and of the destination
+  pub check-digit : printed (damaged 3 12 (50 ∷ [])) ≡ paper 12 3 4
+  pub destination : printed (damaged 1 13 (50 ∷ [])) ≡ paper 12 1 3
+  -- a bank that begins with 4
+  pub bank : printed (damaged 3 4 (52 ∷ [])) ≡ paper 13 3 3
+  -- amount 0 under code 22; code 23 with an amount
+  pub amount : printed (damaged 3 35 (48 ∷ [])) ≡ paper 14 3 6
+  pub prenote : printed (damaged 3 3 (51 ∷ [])) ≡ paper 14 3 6
+  -- code 27 under 220
+  pub side : printed (damaged 3 3 (55 ∷ [])) ≡ paper 15 3 2
+  -- trace 3 behind trace 1; an addendum with trace 3 behind an entry with trace 2
+  pub trace : printed (damaged 4 94 (51 ∷ [])) ≡ paper 16 4 11
+  pub entry-trace : printed (damaged 5 94 (51 ∷ [])) ≡ paper 16 5 5
+  -- batch number 0
+  pub batch-number : printed (damaged 2 94 (48 ∷ [])) ≡ paper 17 2 13
+  -- 2 for 3 records; 2 for 1 batches; blocks without the filler
+  pub count : printed (damaged 6 10 (50 ∷ [])) ≡ paper 18 6 3
+  pub batches : printed (damaged 7 7 (50 ∷ [])) ≡ paper 18 7 2
+  pub blocks : printed (damaged 7 13 (48 ∷ [])) ≡ paper 18 7 3
+  -- a hash that is one too much, of the batch and of the file
+  pub hash : printed (damaged 6 20 (55 ∷ [])) ≡ paper 19 6 4
+  pub file-hash : printed (damaged 7 31 (55 ∷ [])) ≡ paper 19 7 5
+  -- a cent too much: in each total, and in the amount of an entry, where the batch's control shows it
+  pub debit-total : printed (damaged 6 32 (49 ∷ [])) ≡ paper 21 6 5
+  pub credit-total : printed (damaged 6 44 (49 ∷ [])) ≡ paper 21 6 6
+  pub file-debit : printed (damaged 7 43 (49 ∷ [])) ≡ paper 21 7 6
+  pub file-credit : printed (damaged 7 55 (49 ∷ [])) ≡ paper 21 7 7
+  pub amount-more : printed (damaged 3 39 (49 ∷ [])) ≡ paper 21 6 6
+  -- 200 for 220 in the control; another company there
+  pub batch : printed (damaged 6 3 (48 ∷ [])) ≡ paper 22 6 2
+  pub company : printed (damaged 6 45 (50 ∷ [])) ≡ paper 22 6 7
+  -- two faults: the earlier record comes first, in it the earlier field, and in that the lower number
+  pub earlier : printed (sets (damaged 6 10 (50 ∷ [])) (94 * 2 + 29) (65 ∷ [])) ≡ paper 6 3 6
+  pub earlier-field : printed (sets (damaged 3 3 (55 ∷ [])) (94 * 2 + 29) (65 ∷ [])) ≡ paper 15 3 2
+  pub lower-number : printed (damaged 2 5 (32 ∷ 108 ∷ [])) ≡ paper 7 2 3
+
+-- each is refused at its place, by its number
+pub whole-damages : Damages
+unfolding runFrom fieldsFrom every valueFrom sameBytes rows weighed unbroken
+whole-damages =
+    record {
+      empty = refl;
+      short = refl;
+      line-feed = refl;
+      ended = refl;
+      unfilled = refl;
+      misplaced = refl;
+      unflagged = refl;
+      open-batch = refl;
+      past = refl;
+      fixed = refl;
+      filler = refl;
+      filler-type = refl;
+      digits = refl;
+      text = refl;
+      blank = refl;
+      leading = refl;
+      date = refl;
+      time = refl;
+      value = refl;
+      check-digit = refl;
+      destination = refl;
+      bank = refl;
+      amount = refl;
+      prenote = refl;
+      side = refl;
+      trace = refl;
+      entry-trace = refl;
+      batch-number = refl;
+      count = refl;
+      batches = refl;
+      blocks = refl;
+      hash = refl;
+      file-hash = refl;
+      debit-total = refl;
+      credit-total = refl;
+      file-debit = refl;
+      file-credit = refl;
+      amount-more = refl;
+      batch = refl;
+      company = refl;
+      earlier = refl;
+      earlier-field = refl;
+      lower-number = refl;
+    }

@@ -3,3 +3,4 @@ pub mod Table
 pub mod Outcome
 pub mod Sized
 pub mod Keeps
+pub mod Runs

@@ -1,0 +1,58 @@
+// Entries and addenda are nearly all of a large file: their fields tested in a straight line, with no table and no branch between them.
+// The walk along the table names the refusal where one of these says no.
+use crate::Mark;
+use crate::Sums;
+use crate::kinds;
+use crate::near;
+use crate::own;
+ghost use Prim.Native.Nat.{_<_, _^_};
+ghost use mathlib.Core.Path.{_≡_};
+ghost use lib.ListN.{length};
+ghost use Rattle.rules.specs.Quick.{isRight, entryFront, entryBack, addendumAll};
+
+fn right(mark: Mark) -> bool
+    ensures { λ r. ⌜ r ≡ isRight mark ⌝ }
+{
+    match mark {
+        Mark::Right => true,
+        Mark::Wrong(_) => false,
+    }
+}
+
+// Fields 2 to 6 of an entry.
+pub fn entry_front(header: &[u8], rec: &[u8]) -> bool
+    requires { ⌜ (length (now header) ≡ 94) × (length (now rec) ≡ 94) ⌝ }
+    ensures { λ r. ⌜ r ≡ entryFront (now (header .entry)) (now (rec .entry)) ⌝ }
+{
+    let code = right(near::code_rule(header, &rec[1..3]));
+    let bank = right(own::bank(&rec[3..11]));
+    let digit = right(near::check_digit_rule(rec, &rec[11..12]));
+    let account = right(own::account(&rec[12..29]));
+    let amount = right(near::amount_rule(rec, &rec[29..39]));
+    code & bank & digit & account & amount
+}
+
+// Fields 7 to 11 of an entry.
+pub fn entry_back(sums: Sums, header: &[u8], rec: &[u8]) -> bool
+    requires { ⌜ (length (now header) ≡ 94) × (length (now rec) ≡ 94) × (sums .trace < 10 ^ 18) ⌝ }
+    ensures { λ r. ⌜ r ≡ entryBack sums (now (header .entry)) (now (rec .entry)) ⌝ }
+{
+    let id = right(kinds::optional_text(&rec[39..54]));
+    let name = right(kinds::mandatory_text(&rec[54..76]));
+    let other = right(kinds::optional_text(&rec[76..78]));
+    let flag = right(own::flag(&rec[78..79]));
+    let trace = right(near::trace_rule(sums, header, &rec[79..94]));
+    id & name & other & flag & trace
+}
+
+// Fields 2 to 5 of an addendum.
+pub fn addendum_all(sums: Sums, rec: &[u8]) -> bool
+    requires { ⌜ length (now rec) ≡ 94 ⌝ }
+    ensures { λ r. ⌜ r ≡ addendumAll sums (now (rec .entry)) ⌝ }
+{
+    let kind = right(kinds::fixed(5, &rec[1..3]));
+    let words = right(kinds::optional_text(&rec[3..83]));
+    let place = right(kinds::fixed(1, &rec[83..87]));
+    let trace = right(near::entry_trace_rule(sums, &rec[87..94]));
+    kind & words & place & trace
+}
