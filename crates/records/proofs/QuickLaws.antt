@@ -29,12 +29,18 @@ entry-passes s h r f b =
     let b3 = and-both _ _ (b4 .0) in
     let b2 = and-both _ _ (b3 .0) in
     let b1 = and-both _ _ (b2 .0) in
-    rw
-    (right-is (codeRule h (part entry 2 r)) (f1 .0), right-is (bank (part entry 3 r)) (f1 .1),
-    right-is (checkDigitRule r (part entry 4 r)) (f2 .1), right-is (account (part entry 5 r)) (f3 .1),
-    right-is (amountRule r (part entry 6 r)) (f4 .1), right-is (optionalText (part entry 7 r)) (b1 .0),
-    right-is (mandatoryText (part entry 8 r)) (b1 .1), right-is (optionalText (part entry 9 r)) (b2 .1),
-    right-is (flag (part entry 10 r)) (b3 .1), right-is (traceRule s h (part entry 11 r)) (b4 .1))
+    rw (
+      right-is (codeRule h (part entry 2 r)) (f1 .0),
+      right-is (bank (part entry 3 r)) (f1 .1),
+      right-is (checkDigitRule r (part entry 4 r)) (f2 .1),
+      right-is (account (part entry 5 r)) (f3 .1),
+      right-is (amountRule r (part entry 6 r)) (f4 .1),
+      right-is (optionalText (part entry 7 r)) (b1 .0),
+      right-is (mandatoryText (part entry 8 r)) (b1 .1),
+      right-is (optionalText (part entry 9 r)) (b2 .1),
+      right-is (flag (part entry 10 r)) (b3 .1),
+      right-is (traceRule s h (part entry 11 r)) (b4 .1),
+    )
     refl
 
 pub addendum-passes : (s : Sums) (h r : List ℕ) → addendumAll s r ≡ true → fieldsFrom 1 addendum s h r ≡ Verdict.Passed
@@ -43,7 +49,10 @@ addendum-passes s h r a =
     let a3 = and-both _ _ a in
     let a2 = and-both _ _ (a3 .0) in
     let a1 = and-both _ _ (a2 .0) in
-    rw
-    (right-is (fixed 5 (part addendum 2 r)) (a1 .0), right-is (optionalText (part addendum 3 r)) (a1 .1),
-    right-is (fixed 1 (part addendum 4 r)) (a2 .1), right-is (entryTraceRule s (part addendum 5 r)) (a3 .1))
+    rw (
+      right-is (fixed 5 (part addendum 2 r)) (a1 .0),
+      right-is (optionalText (part addendum 3 r)) (a1 .1),
+      right-is (fixed 1 (part addendum 4 r)) (a2 .1),
+      right-is (entryTraceRule s (part addendum 5 r)) (a3 .1),
+    )
     refl

@@ -3,10 +3,10 @@ use layout::Fault;
 
 pub mod codes;
 pub mod field;
-pub mod quick;
 mod kinds;
 pub mod near;
 mod own;
+pub mod quick;
 
 // What a field's rules say of it: right, or the lowest number that applies.
 pub enum Mark {

@@ -1,0 +1,112 @@
+-- An entry's addendum in its file.
+-- Assumes nothing.
+use mathlib.Core.Path.{_≡_, refl, sym, ap, _∙_, subst}
+use mathlib.Core.Bool.{Bool, true, false, _&&_}
+use mathlib.Core.List.{List, [], _∷_}
+use Prim.Native.Nat.{ℕ, _+_, _-_, _*_, _/_, _≤_, _<_}
+use native.Mathlib.Omega.{arith}
+use borrow.Author.Tests.{leb-true, eq-eqb, ne-eqb, eqb-false}
+use lib.Dec.{leb, ltb, eqb, lit<}
+use lib.ListN.{length, getD, drop}
+use Rattle.text.specs.Decimal.{pick}
+use Rattle.text.proofs.DecimalLaws.{and-both}
+use Rattle.text.proofs.RowLaws.{getD-columns}
+use Rattle.layout.specs.declared.Answer.{Answer}
+use Rattle.layout.specs.declared.Refusal.{Refusal}
+use Rattle.layout.specs.declared.Fault.{Fault}
+use Rattle.records.specs.Order.{takesAddendum}
+use Rattle.records.specs.Run.{checkedOf}
+use Rattle.view.specs.View.{Entry, View, entryRecord, entriesOf, recordsOf, viewOf}
+use Rattle.view.specs.Sized.{SizedEntry}
+use Rattle.view.specs.Outcome.{Part, noPart, noEntry, entryAt, refusal, demand, andThen, spotOf, entryNumber, addendumAnswer, addendumPartOf, partIf, addendumOf}
+use Rattle.view.proofs.Lists.{all-at}
+use Rattle.view.proofs.Tables.{entries-sized}
+use Rattle.view.proofs.Bridge.{accepted-view}
+use Rattle.view.proofs.BridgeFields.{by-eq}
+use Rattle.view.proofs.Own.{own-entries}
+use Rattle.altering.specs.Find.{allRecords, nthOf}
+use Rattle.altering.specs.There.{There, EntryAt}
+use Rattle.altering.specs.Asked.{askedOf}
+use Rattle.altering.proofs.Parts.{record-byte}
+use Rattle.altering.proofs.Accepted.{entry-at, entry-text}
+
+-- ---- the question
+
+-- the number of entries that an acceptance gives is that of the file's entries
+pub asked-answer : (f : List ℕ) (k : ℕ) → askedOf (checkedOf 94 f) k ≡ addendumAnswer 94 f k
+asked-answer f k = go (checkedOf 94 f .answer) refl
+  where
+    exist : ℕ → Answer
+    exist n = demand (leb 1 k && leb k n) (refusal Fault.NoEntry 0 0) Answer.Granted
+
+    go : (a : Answer) → checkedOf 94 f .answer ≡ a → andThen a (exist (checkedOf 94 f .entries)) ≡ andThen a (exist (length (entriesOf (viewOf 94 f))))
+    go Answer.Granted e = ap exist (own-entries f e .entries)
+    go (Answer.Refused r) e = refl
+
+-- it is granted where there is such an entry
+pub granted-there : (f : List ℕ) (k : ℕ) → addendumAnswer 94 f k ≡ Answer.Granted → There f k
+granted-there f k = go (checkedOf 94 f .answer) refl
+  where
+    exist : Bool → Answer
+    exist t = demand t (refusal Fault.NoEntry 0 0) Answer.Granted
+
+    exists : (t : Bool) → exist t ≡ Answer.Granted → t ≡ true
+    exists true e = refl
+    exists false e = cc
+
+    go : (a : Answer) → checkedOf 94 f .answer ≡ a → andThen a (exist (leb 1 k && leb k (length (entriesOf (viewOf 94 f))))) ≡ Answer.Granted → There f k
+    go Answer.Granted e g =
+        let b = and-both (leb 1 k) (leb k (length (entriesOf (viewOf 94 f)))) (exists _ g) in
+        record { accepted = e; first = leb-true 1 k (b .0); last = leb-true k (length (entriesOf (viewOf 94 f))) (b .1) }
+    go (Answer.Refused r) e g = absurd (let z : _≡_ {A = ℕ} 0 1 = cc in omega arith)
+
+-- ---- the part
+
+module _ (f : List ℕ) (k i : ℕ) (t : There f k) (at : EntryAt f k i) where
+  -- its column 79 says how many addenda it has
+  addenda-due : length (entryAt (viewOf 94 f) k .addenda) ≡ pick (eqb (getD f (94 * i + 78) 0) 49) 1 0
+  addenda-due =
+      let v = viewOf 94 f in
+      let sized = all-at SizedEntry (entriesOf v) (k - 1) noEntry (entries-sized (v .batches) (accepted-view f (t .accepted) .sized .each)) (omega (arith, t .first, t .last)) in
+      sized .due
+      ∙ ap (λ n. pick (eqb n 49) 1 0) (getD-columns 79 79 (entryRecord (entryAt v k)) 0 (omega arith) ∙ ap (λ r. getD r 78 0) (sym (entry-text f k t i at)) ∙ record-byte f i (omega (arith, at .inside)) 78 (lit< tt))
+
+  part-is : addendumAnswer 94 f k ≡ Answer.Granted → addendumOf 94 f k ≡ pick (ltb 0 (pick (eqb (getD f (94 * i + 78) 0) 49) 1 0)) (record { from = 94 * i + 97; size = 80 }) noPart
+  part-is e =
+      let v = viewOf 94 f in
+      let from : 94 * entryNumber (spotOf v k) + 3 ≡ 94 * i + 97 = omega (arith, at .number) in
+      ap (λ a. partIf a (addendumPartOf (entryAt v k) (94 * entryNumber (spotOf v k)))) e
+      ∙ ap (λ n. pick (ltb 0 n) (record { from = 94 * entryNumber (spotOf v k) + 3; size = 80 }) noPart) addenda-due
+      ∙ ap (λ n. pick (ltb 0 (pick (eqb (getD f (94 * i + 78) 0) 49) 1 0)) (record { from = n; size = 80 }) noPart) from
+
+  -- columns 4-83 of the record behind it
+  pub part-there : addendumAnswer 94 f k ≡ Answer.Granted → getD f (94 * i + 78) 0 ≡ 49 → addendumOf 94 f k ≡ record { from = 94 * i + 97; size = 80 }
+  part-there e h = part-is e ∙ rw (eq-eqb (getD f (94 * i + 78) 0) 49 h)
+
+  -- or none
+  pub part-none : addendumAnswer 94 f k ≡ Answer.Granted → (getD f (94 * i + 78) 0 ≡ 49 → ⊥) → addendumOf 94 f k ≡ noPart
+  part-none e h = part-is e ∙ rw (ne-eqb (getD f (94 * i + 78) 0) 49 h)
+
+pub part-refused : (f : List ℕ) (k : ℕ) (r : Refusal) → addendumAnswer 94 f k ≡ Answer.Refused r → addendumOf 94 f k ≡ noPart
+part-refused f k r e = ap (λ a. partIf a (addendumPartOf (entryAt (viewOf 94 f) k) (94 * entryNumber (spotOf (viewOf 94 f) k)))) e
+
+-- either way it lies in the file
+abbrev Inside : List ℕ → Part → Type 0
+Inside f p = p .from + p .size ≤ length f
+
+pub part-inside : (f : List ℕ) (k : ℕ) → addendumOf 94 f k .from + addendumOf 94 f k .size ≤ length f
+part-inside f k = go (addendumAnswer 94 f k) refl
+  where
+    go : (a : Answer) → addendumAnswer 94 f k ≡ a → Inside f (addendumOf 94 f k)
+    go Answer.Granted e =
+        let t = granted-there f k e in
+        let i = nthOf 54 (k - 1) (allRecords f) in
+        let at = entry-at f k t i (omega arith) in
+        by-eq (getD f (94 * i + 78) 0) 49
+        (λ h. subst (Inside f) (sym (part-there f k i t at e h)) (omega (arith, at .inside)))
+        (λ h. subst (Inside f) (sym (part-none f k i t at e (eqb-false (getD f (94 * i + 78) 0) 49 h))) (omega arith))
+    go (Answer.Refused r) e = subst (Inside f) (sym (part-refused f k r e)) (omega arith)
+
+-- a part is told by its two numbers
+pub both : {p q : Part} → p ≡ q → (q .from ≡ p .from) × (q .size ≡ p .size)
+both e = (ap (λ x. x .from) (sym e), ap (λ x. x .size) (sym e))

@@ -1,0 +1,62 @@
+use Rattle.altering.proofs.Parts.{record-cut}
+use Rattle.rules.specs.Field.{entryCode, entryAmount}
+use Rattle.rules.specs.Codes.{codeOf}
+use mathlib.Core.Path.{_∙_, ap}
+use borrow.Author.Needs.{needs}
+use Rattle.altering.proofs.side.entry_said.Statement.{statement}
+use Rattle.altering.proofs.side.entry_said.Tie as tie
+use Rattle.altering.proofs.side.entry_said.Reads as reads
+use Rattle.altering.proofs.side.entry_said.Lts as lts
+use Rattle.rules.proofs.codes.code_of.Reads as code-of-reads
+use Rattle.rules.proofs.near.entry_amount.Reads as entry-amount-reads
+use Rattle.rules.proofs.near.entry_code.Reads as entry-code-reads
+
+-- src/side.rt:64:14
+mul-at : tie.Need-mul-at
+mul-at c = search needs
+
+-- src/side.rt:65:25
+add-rec : tie.Need-add-rec
+add-rec c = search needs
+
+-- src/side.rt:65:15
+sub-rec : tie.Need-sub-rec
+sub-rec c = search needs
+
+-- src/side.rt:65:15
+part-rec-start : tie.Need-part-rec-start
+part-rec-start c = search needs
+
+-- src/side.rt:65:15
+part-rec-end : tie.Need-part-rec-end
+part-rec-end c = search needs
+
+-- src/side.rt:67:30
+entry-code-requires : tie.Need-entry-code-requires
+entry-code-requires c κs = search needs
+
+-- src/side.rt:67:15
+code-of-requires : tie.Need-code-of-requires
+code-of-requires c κs = search needs
+
+-- src/side.rt:68:17
+entry-amount-requires : tie.Need-entry-amount-requires
+entry-amount-requires c κs = search needs
+
+-- src/side.rt:60:1
+returns : tie.Need-returns
+returns c = ((c .before .code-of) .ensures ∙ ap codeOf ((c .before .before .entry-code) .ensures ∙ ap entryCode (record-cut ((c .before .before .before .before .before .args) .file .now) ((c .before .before .before .before .before .args) .i) ((c .before .before .before .before .before .pre)))), (c .entry-amount) .ensures ∙ ap entryAmount (record-cut ((c .before .before .before .before .before .args) .file .now) ((c .before .before .before .before .before .args) .i) ((c .before .before .before .before .before .pre))))
+
+pub entry-said-spec : {M : Type 1} → statement M
+entry-said-spec =
+    tie.close
+    (tie.spec
+    mul-at
+    add-rec
+    sub-rec
+    part-rec-start
+    part-rec-end
+    entry-code-requires
+    code-of-requires
+    entry-amount-requires
+    returns)

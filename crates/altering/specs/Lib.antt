@@ -1,0 +1,4 @@
+pub mod Find
+pub mod There
+pub mod Asked
+pub mod Side

@@ -1,0 +1,81 @@
+use Rattle.accept.proofs.Laws.{recordAt, record-long}
+use Rattle.reading.proofs.Writing.{room-for, left-long, count-small, BatchesLeft, batches-start, batches-room, batches-next, batches-end}
+use native.Mathlib.Omega.{arith}
+use lib.ListN.{length}
+use mathlib.Core.Path.{_≡_}
+use Prim.Native.Nat.{_-_, _%_, _≤_}
+use mathlib.Core.Path.{refl}
+use Rattle.reading.proofs.put_batches.Statement.{statement}
+use Rattle.reading.proofs.put_batches.Tie as tie
+use Rattle.reading.proofs.put_batches.Reads as reads
+use Rattle.reading.proofs.put_batches.Lts as lts
+use Rattle.reading.proofs.count_after.Reads as count-after-reads
+use Rattle.reading.proofs.put_batch_piece.Reads as put-batch-piece-reads
+
+abbrev Inv-loop : tie.InvT-loop
+Inv-loop file table₀ start to₀ count₀ at₀ table to count at = (at ≤ length file) × (at % 94 ≡ 0) × (count ≤ at) × BatchesLeft file table₀ start count table to at
+
+abbrev μ-loop : tie.MeasureT-loop
+μ-loop file table₀ start to₀ count₀ at₀ table to count at = length file - at
+
+-- src/lib.rt:98:5
+loop-holds : tie.Need-loop-holds Inv-loop μ-loop
+loop-holds c = (omega arith, refl, omega arith, batches-start ((c .before .before .args) .file .now) ((c .before .before .args) .table .now) ((c .before .before .args) .start))
+
+-- src/lib.rt:99:20
+add-next : tie.Need-add-next Inv-loop μ-loop
+add-next c = record { fits = omega (arith, room-for (length ((c .before .before .before .before .args) .file .now)) ((c .before .loop) .at) ((c .before .before .before .before .pre) .0) ((c .before .loop) .inv .1) ((c .loop-test) .taken)) }
+
+-- src/lib.rt:100:19
+sub-rec : tie.Need-sub-rec Inv-loop μ-loop
+sub-rec c = omega arith
+
+-- src/lib.rt:100:19
+part-rec-start : tie.Need-part-rec-start Inv-loop μ-loop
+part-rec-start c = omega arith
+
+-- src/lib.rt:100:19
+part-rec-end : tie.Need-part-rec-end Inv-loop μ-loop
+part-rec-end c = room-for (length ((c .before .before .before .before .args) .file .now)) ((c .before .loop) .at) ((c .before .before .before .before .pre) .0) ((c .before .loop) .inv .1) ((c .loop-test) .taken)
+
+-- src/lib.rt:101:9
+put-batch-piece-requires : tie.Need-put-batch-piece-requires Inv-loop μ-loop
+put-batch-piece-requires c κs = (record-long ((c .before .before .before .before .before .before .args) .file .now) ((c .before .before .before .loop) .at) (room-for (length ((c .before .before .before .before .before .before .args) .file .now)) ((c .before .before .before .loop) .at) ((c .before .before .before .before .before .before .pre) .0) ((c .before .before .before .loop) .inv .1) ((c .before .before .loop-test) .taken)), batches-room ((c .before .before .before .before .before .before .args) .file .now) ((c .before .before .before .before .before .before .args) .table .now) ((c .before .before .before .before .before .before .args) .start) ((c .before .before .before .loop) .at) (room-for (length ((c .before .before .before .before .before .before .args) .file .now)) ((c .before .before .before .loop) .at) ((c .before .before .before .before .before .before .pre) .0) ((c .before .before .before .loop) .inv .1) ((c .before .before .loop-test) .taken)) ((c .before .before .before .loop) .count) ((c .before .before .before .loop) .inv .3) ((c .before .before .before .before .before .before .pre) .2))
+
+-- src/lib.rt:102:9
+count-after-requires : tie.Need-count-after-requires Inv-loop μ-loop
+count-after-requires c κs = (record-long ((c .before .before .before .before .before .before .before .before .before .args) .file .now) ((c .before .before .before .before .before .before .loop) .at) (room-for (length ((c .before .before .before .before .before .before .before .before .before .args) .file .now)) ((c .before .before .before .before .before .before .loop) .at) ((c .before .before .before .before .before .before .before .before .before .pre) .0) ((c .before .before .before .before .before .before .loop) .inv .1) ((c .before .before .before .before .before .loop-test) .taken)), omega (arith, (c .before .before .before .before .before .before .loop) .inv .2, (c .before .before .before .before .before .before .before .before .before .pre) .1, (c .before .before .before .before .before .loop-test) .taken))
+
+-- src/lib.rt:98:5
+loop-less : tie.Need-loop-less Inv-loop μ-loop
+loop-less c = omega (arith, (c .before .before .before .before .before .before .loop-test) .taken)
+
+-- src/lib.rt:98:5
+loop-again : tie.Need-loop-again Inv-loop μ-loop
+loop-again c = (room-for (length ((c .before .before .before .before .before .before .before .before .before .before .args) .file .now)) ((c .before .before .before .before .before .before .before .loop) .at) ((c .before .before .before .before .before .before .before .before .before .before .pre) .0) ((c .before .before .before .before .before .before .before .loop) .inv .1) ((c .before .before .before .before .before .before .loop-test) .taken), omega (arith, (c .before .before .before .before .before .before .before .loop) .inv .1), omega (arith, (c .count-after) .ensures, count-small (recordAt ((c .before .before .before .before .before .before .before .before .before .before .args) .file .now) ((c .before .before .before .before .before .before .before .loop) .at)) ((c .before .before .before .before .before .before .before .loop) .count), (c .before .before .before .before .before .before .before .loop) .inv .2), rw ((c .count-after) .ensures) (batches-next ((c .before .before .before .before .before .before .before .before .before .before .args) .file .now) ((c .before .before .before .before .before .before .before .before .before .before .args) .table .now) ((c .before .before .before .before .before .before .before .before .before .before .args) .start) ((c .before .before .before .before .before .before .before .loop) .at) (room-for (length ((c .before .before .before .before .before .before .before .before .before .before .args) .file .now)) ((c .before .before .before .before .before .before .before .loop) .at) ((c .before .before .before .before .before .before .before .before .before .before .pre) .0) ((c .before .before .before .before .before .before .before .loop) .inv .1) ((c .before .before .before .before .before .before .loop-test) .taken)) ((c .before .before .before .before .before .before .before .loop) .count) ((c .before .before .before .before .before .before .before .loop) .inv .3) ((c .before .before .before .put-batch-piece) .ensures)))
+
+-- src/lib.rt:91:1
+same-length : tie.Need-same-length Inv-loop μ-loop
+same-length c = left-long ((c .before .loop) .inv .3)
+
+-- src/lib.rt:91:1
+returns : tie.Need-returns Inv-loop μ-loop
+returns c = batches-end ((c .before .before .before .before .args) .file .now) ((c .before .before .before .before .args) .table .now) ((c .before .before .before .before .args) .start) ((c .before .loop) .count) ((c .before .loop) .inv .3) ((c .loop-test) .left)
+
+pub put-batches-spec : {M : Type 1} → statement M
+put-batches-spec =
+    tie.close
+    (tie.spec
+    Inv-loop
+    μ-loop
+    loop-holds
+    add-next
+    sub-rec
+    part-rec-start
+    part-rec-end
+    put-batch-piece-requires
+    count-after-requires
+    loop-less
+    loop-again
+    same-length
+    returns)

@@ -1,0 +1,174 @@
+// Reading: a file's pay table, written into lent memory. The file is checked first, and nothing is written on a refusal.
+use layout::Answer;
+use layout::Fault;
+use layout::Made;
+use layout::RecordNo;
+use layout::Refusal;
+ghost use Prim.Native.Nat.{_%_, _<_, _≤_};
+ghost use mathlib.Core.Path.{_≡_};
+ghost use lib.ListN.{length};
+ghost use Rattle.text.specs.Decimal.{render};
+ghost use Rattle.view.specs.Outcome.{readOf};
+ghost use Rattle.reading.specs.Passes.{allRecords, between, rowOf, rowBytes, countAfter, batchPiece, batchBytes, headBytes, tailBytes, wholeBytes};
+ghost use Rattle.reading.specs.Puts.{Puts, Room};
+
+// Writes bytes `from` to `end` of a record at `to`, and gives the place behind them.
+fn put_part(rec: &[u8], from: usize, end: usize, table: &mut [u8], to: usize) -> usize
+    requires { ⌜ (from ≤ end) × (end ≤ length (now rec)) × Room (between from end (now rec)) (now table) to ⌝ }
+    ensures { λ r. ⌜ Puts (between from end (now (rec .entry))) (now (table .entry)) (now (table .exit)) to r ⌝ }
+{
+    text::copy_into(table, to, &rec[from..end]);
+    to + (end - from)
+}
+
+// Writes a count in six digits.
+fn put_count(count: u64, table: &mut [u8], to: usize) -> usize
+    requires { ⌜ Room (render 6 count) (now table) to ⌝ }
+    ensures { λ r. ⌜ Puts (render 6 count) (now (table .entry)) (now (table .exit)) to r ⌝ }
+{
+    let mut digits = [48u8; 6];
+    text::put_number(&mut digits, count);
+    text::copy_into(table, to, &digits);
+    to + 6
+}
+
+// Writes the part of a record that is of the kind asked for.
+fn put_row(rec: &[u8], kind: u8, from: usize, end: usize, table: &mut [u8], to: usize) -> usize
+    requires { ⌜ (length (now rec) ≡ 94) × (from ≤ end) × (end ≤ 94) × Room (rowOf kind from end (now rec)) (now table) to ⌝ }
+    ensures { λ r. ⌜ Puts (rowOf kind from end (now (rec .entry))) (now (table .entry)) (now (table .exit)) to r ⌝ }
+{
+    if rec[0] == kind {
+        return put_part(rec, from, end, table, to);
+    }
+    to
+}
+
+// The pass for the entries or the addenda: one part of each record of their kind.
+fn put_rows(file: &[u8], kind: u8, from: usize, end: usize, table: &mut [u8], start: usize) -> usize
+    requires { ⌜ (length (now file) % 94 ≡ 0) × (from ≤ end) × (end ≤ 94) × Room (rowBytes kind from end (allRecords (now file))) (now table) start ⌝ }
+    ensures { λ r. ⌜ Puts (rowBytes kind from end (allRecords (now (file .entry)))) (now (table .entry)) (now (table .exit)) start r ⌝ }
+{
+    let mut to = start;
+    let mut at = 0;
+    while at < file.len() {
+        let next = at + 94;
+        to = put_row(&file[at..next], kind, from, end, table, to);
+        at = next;
+    }
+    to
+}
+
+// The entries since the last record 5, behind this record.
+fn count_after(rec: &[u8], count: u64) -> u64
+    requires { ⌜ (length (now rec) ≡ 94) × (count < 94000000) ⌝ }
+    ensures { λ r. ⌜ r ≡ countAfter (now (rec .entry)) count ⌝ }
+{
+    if rec[0] == b'5' {
+        return 0;
+    }
+    if rec[0] == b'6' {
+        return count + 1;
+    }
+    count
+}
+
+// A batch's row stands where its record 5 is; its number of entries is known at its record 8.
+fn put_batch_piece(rec: &[u8], count: u64, table: &mut [u8], to: usize) -> usize
+    requires { ⌜ (length (now rec) ≡ 94) × Room (batchPiece (now rec) count) (now table) to ⌝ }
+    ensures { λ r. ⌜ Puts (batchPiece (now (rec .entry)) count) (now (table .entry)) (now (table .exit)) to r ⌝ }
+{
+    if rec[0] == b'5' {
+        let behind = put_part(rec, 1, 75, table, to);
+        return put_part(rec, 79, 94, table, behind);
+    }
+    if rec[0] == b'8' {
+        return put_count(count, table, to);
+    }
+    to
+}
+
+// The pass for the batches.
+fn put_batches(file: &[u8], table: &mut [u8], start: usize) -> usize
+    requires { ⌜ (length (now file) % 94 ≡ 0) × (length (now file) ≤ 94000000) × Room (batchBytes 0 (allRecords (now file))) (now table) start ⌝ }
+    ensures { λ r. ⌜ Puts (batchBytes 0 (allRecords (now (file .entry)))) (now (table .entry)) (now (table .exit)) start r ⌝ }
+{
+    let mut to = start;
+    let mut count = 0;
+    let mut at = 0;
+    while at < file.len() {
+        let next = at + 94;
+        let rec = &file[at..next];
+        to = put_batch_piece(rec, count, table, to);
+        count = count_after(rec, count);
+        at = next;
+    }
+    to
+}
+
+// The file's row behind its count, and the number of batches.
+fn put_head(rec: &[u8], batches: u64, table: &mut [u8]) -> usize
+    requires { ⌜ (length (now rec) ≡ 94) × Room (headBytes (now rec) batches) (now table) 0 ⌝ }
+    ensures { λ r. ⌜ Puts (headBytes (now (rec .entry)) batches) (now (table .entry)) (now (table .exit)) 0 r ⌝ }
+{
+    let front = put_count(1, table, 0);
+    let back = put_part(rec, 3, 34, table, front);
+    let count = put_part(rec, 40, 94, table, back);
+    put_count(batches, table, count)
+}
+
+// The entries and the addenda, each behind their count.
+fn put_tail(file: &[u8], entries: u64, addenda: u64, table: &mut [u8], to: usize) -> usize
+    requires { ⌜ (length (now file) % 94 ≡ 0) × Room (tailBytes entries addenda (allRecords (now file))) (now table) to ⌝ }
+    ensures { λ r. ⌜ Puts (tailBytes entries addenda (allRecords (now (file .entry)))) (now (table .entry)) (now (table .exit)) to r ⌝ }
+{
+    let rows = put_count(entries, table, to);
+    let count = put_rows(file, b'6', 1, 94, table, rows);
+    let texts = put_count(addenda, table, count);
+    put_rows(file, b'7', 3, 83, table, texts)
+}
+
+// The whole table, front to back.
+fn put_table(file: &[u8], batches: u64, entries: u64, addenda: u64, table: &mut [u8]) -> usize
+    requires { ⌜ (94 ≤ length (now file)) × (length (now file) % 94 ≡ 0) × (length (now file) ≤ 94000000) × Room (wholeBytes (now file) batches entries addenda) (now table) 0 ⌝ }
+    ensures { λ r. ⌜ Puts (wholeBytes (now (file .entry)) batches entries addenda) (now (table .entry)) (now (table .exit)) 0 r ⌝ }
+{
+    let rows = put_head(&file[0..94], batches, table);
+    let tail = put_batches(file, table, rows);
+    put_tail(file, entries, addenda, table, tail)
+}
+
+// The pay table of a file that keeps the rules; the bytes past it stay.
+pub fn read(file: &[u8], table: &mut [u8]) -> Made
+    ensures { λ r. ⌜ (r ≡ readOf 94 (now (file .entry)) (now (table .entry)) .gives) × (now (table .exit) ≡ readOf 94 (now (file .entry)) (now (table .entry)) .leaves) ⌝ }
+{
+    let checked = accept::check(file);
+    let answer = checked.answer;
+    if let Answer::Refused(refusal) = answer {
+        return Made {
+            answer: Answer::Refused(refusal),
+            length: 0,
+        };
+    }
+    let size = 109 + 95 * checked.batches + 93 * checked.entries + 80 * checked.addenda;
+    if (table.len() as u64) < size {
+        return Made {
+            answer: Answer::Refused(Refusal {
+                fault: Fault::Room,
+                record: RecordNo(0),
+                field: 0,
+            }),
+            length: 0,
+        };
+    }
+    put_table(
+        file,
+        checked.batches,
+        checked.entries,
+        checked.addenda,
+        table,
+    );
+    Made {
+        answer: Answer::Granted,
+        length: size,
+    }
+}
