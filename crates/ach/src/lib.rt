@@ -8,7 +8,7 @@ ghost use mathlib.Core.Path.{_≡_};
 ghost use lib.ListN.{take, drop};
 ghost use Rattle.layout.specs.Fields.{recordColumns};
 ghost use Rattle.records.specs.Run.{checkedOf};
-ghost use Rattle.view.specs.Outcome.{readOf, alterOf, addendumAnswer, addendumOf};
+ghost use Rattle.view.specs.Outcome.{readOf, writeOf, alterOf, addendumAnswer, addendumOf};
 
 // A file is accepted exactly if it keeps the rules; else the first refusal is named.
 pub fn check(file: &[u8]) -> Checked
@@ -22,6 +22,13 @@ pub fn read(file: &[u8], table: &mut [u8]) -> Made
     ensures { λ r. ⌜ (r ≡ readOf recordColumns (now (file .entry)) (now (table .entry)) .gives) × (now (table .exit) ≡ readOf recordColumns (now (file .entry)) (now (table .entry)) .leaves) ⌝ }
 {
     reading::read(file, table)
+}
+
+// The file of a pay table, written to the front of the lent file.
+pub fn write(table: &[u8], file: &mut [u8]) -> Made
+    ensures { λ r. ⌜ (r ≡ writeOf recordColumns (now (table .entry)) (now (file .entry)) .gives) × (now (file .exit) ≡ writeOf recordColumns (now (table .entry)) (now (file .entry)) .leaves) ⌝ }
+{
+    writing::write(table, file)
 }
 
 // One entry's amount altered in place, with the totals of its side.

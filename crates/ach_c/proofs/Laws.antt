@@ -11,7 +11,7 @@ use Rattle.layout.specs.declared.Checked.{Checked}
 use Rattle.layout.specs.declared.Refusal.{Refusal}
 use Rattle.layout.specs.declared.Fault.{Fault}
 use Rattle.layout.specs.Paper.{numberOf}
-use Rattle.ach_c.specs.Boundary.{codeOfAnswer, numbersOf, numbersLeft}
+use Rattle.ach_c.specs.Boundary.{codeOfAnswer, numbersOf, numbersLeft, left}
 
 pub number-le : (f : Fault) → numberOf f ≤ 25
 number-le Fault.Length = lit≤ tt
@@ -50,3 +50,13 @@ granted-left c d lent e g =
 -- and a refused one leaves them as they were
 pub refused-left : (c d : Checked) (lent : List ℕ) (r : Refusal) → c ≡ d → c .answer ≡ Answer.Refused r → lent ≡ numbersLeft (d .answer) (numbersOf d) lent
 refused-left c d lent r e g = rw (← e, g) refl
+
+-- a grant is coded 0, and gives its number; a refusal leaves the lent one
+pub granted-code : (a b : Answer) → a ≡ b → a ≡ Answer.Granted → 0 ≡ codeOfAnswer b
+granted-code a b e g = rw (← e, g) refl
+
+pub granted-gives : {A : Type 0} (a b : Answer) (x y lent : A) → a ≡ b → a ≡ Answer.Granted → x ≡ y → x ≡ left b y lent
+granted-gives a b x y lent e g p = rw (← e, g) p
+
+pub refused-lent : {A : Type 0} (a b : Answer) (r : Refusal) (y lent : A) → a ≡ b → a ≡ Answer.Refused r → lent ≡ left b y lent
+refused-lent a b r y lent e g = rw (← e, g) refl

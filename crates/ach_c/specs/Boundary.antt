@@ -21,3 +21,8 @@ numbersOf c = (c .batches ∷ c .entries ∷ c .addenda ∷ c .debit ∷ c .cred
 abbrev pub numbersLeft : Answer → List ℕ → List ℕ → List ℕ
 numbersLeft Answer.Granted given lent = sets lent 0 given
 numbersLeft (Answer.Refused r) given lent = lent
+
+-- a number that is given on a grant only
+abbrev pub left {ℓ} : {A : Type ℓ} → Answer → A → A → A
+left Answer.Granted given lent = given
+left (Answer.Refused r) given lent = lent

@@ -1,12 +1,13 @@
 // The boundary: thin, total functions on slices and numbers for callers in C, Rust and other languages (include/ach.h).
 use layout::Answer;
-use layout::Checked;
+use layout::EntryNo;
 ghost use Prim.Native.Nat.{_+_, _*_, _%_, _≤_};
 ghost use mathlib.Core.Path.{_≡_};
 ghost use lib.Seq.{sets};
 ghost use Rattle.layout.specs.Fields.{recordColumns};
 ghost use Rattle.records.specs.Run.{checkedOf};
-ghost use Rattle.ach_c.specs.Boundary.{codeOfAnswer, numbersOf, numbersLeft};
+ghost use Rattle.ach_c.specs.Boundary.{codeOfAnswer, numbersOf, numbersLeft, left};
+ghost use Rattle.view.specs.Outcome.{readOf, writeOf, alterOf, addendumAnswer, addendumOf};
 
 fn packed(number: u64, field: u64, record: u64) -> u64
     requires { ⌜ number ≤ 25 ⌝ }
@@ -54,6 +55,60 @@ pub extern "C" fn ach_check(file: &[u8], acceptance: &mut [u64; 21]) -> u64
         acceptance[4] = checked.credit;
         let bycode = checked.bycode;
         put_rows(acceptance, bycode);
+        return 0;
+    }
+    code_of(answer)
+}
+
+#[no_mangle]
+pub extern "C" fn ach_read(file: &[u8], table: &mut [u8], length: &mut u64) -> u64
+    ensures { λ r. ⌜ (r ≡ codeOfAnswer (readOf recordColumns (now (file .entry)) (now (table .entry)) .gives .answer)) × (now (table .exit) ≡ readOf recordColumns (now (file .entry)) (now (table .entry)) .leaves) × (now (length .exit) ≡ left (readOf recordColumns (now (file .entry)) (now (table .entry)) .gives .answer) (readOf recordColumns (now (file .entry)) (now (table .entry)) .gives .length) (now (length .entry))) ⌝ }
+{
+    let made = ach::read(file, table);
+    let answer = made.answer;
+    if let Answer::Granted = answer {
+        *length = made.length;
+        return 0;
+    }
+    code_of(answer)
+}
+
+#[no_mangle]
+pub extern "C" fn ach_write(table: &[u8], file: &mut [u8], length: &mut u64) -> u64
+    ensures { λ r. ⌜ (r ≡ codeOfAnswer (writeOf recordColumns (now (table .entry)) (now (file .entry)) .gives .answer)) × (now (file .exit) ≡ writeOf recordColumns (now (table .entry)) (now (file .entry)) .leaves) × (now (length .exit) ≡ left (writeOf recordColumns (now (table .entry)) (now (file .entry)) .gives .answer) (writeOf recordColumns (now (table .entry)) (now (file .entry)) .gives .length) (now (length .entry))) ⌝ }
+{
+    let made = ach::write(table, file);
+    let answer = made.answer;
+    if let Answer::Granted = answer {
+        *length = made.length;
+        return 0;
+    }
+    code_of(answer)
+}
+
+#[no_mangle]
+pub extern "C" fn ach_alter(file: &mut [u8], entry: u64, amount: u64, difference: &mut i64) -> u64
+    ensures { λ r. ⌜ (r ≡ codeOfAnswer (alterOf recordColumns (now (file .entry)) entry amount .gives .answer)) × (now (file .exit) ≡ alterOf recordColumns (now (file .entry)) entry amount .leaves) × (now (difference .exit) ≡ left (alterOf recordColumns (now (file .entry)) entry amount .gives .answer) (alterOf recordColumns (now (file .entry)) entry amount .gives .difference) (now (difference .entry))) ⌝ }
+{
+    let altered = ach::alter(file, EntryNo(entry), amount);
+    let answer = altered.answer;
+    if let Answer::Granted = answer {
+        let cents = altered.difference;
+        *difference = cents;
+        return 0;
+    }
+    code_of(answer)
+}
+
+#[no_mangle]
+pub extern "C" fn ach_addendum(file: &[u8], entry: u64, start: &mut u64, length: &mut u64) -> u64
+    ensures { λ r. ⌜ (r ≡ codeOfAnswer (addendumAnswer recordColumns (now (file .entry)) entry)) × (now (start .exit) ≡ left (addendumAnswer recordColumns (now (file .entry)) entry) (addendumOf recordColumns (now (file .entry)) entry .from) (now (start .entry))) × (now (length .exit) ≡ left (addendumAnswer recordColumns (now (file .entry)) entry) (addendumOf recordColumns (now (file .entry)) entry .size) (now (length .entry))) ⌝ }
+{
+    let answer = ach::addendum_answer(file, EntryNo(entry));
+    if let Answer::Granted = answer {
+        let span = ach::addendum_span(file, EntryNo(entry));
+        *start = span.from as u64;
+        *length = span.size as u64;
         return 0;
     }
     code_of(answer)

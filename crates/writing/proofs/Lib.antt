@@ -1,0 +1,5 @@
+pub mod ShapeLaws
+pub mod FormLaws
+pub mod WalkLaws
+pub mod PassLaws
+pub mod WriteLaws

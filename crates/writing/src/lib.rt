@@ -1,0 +1,87 @@
+// Writing: a pay table is formed into a file. The formed file's records are walked twice, first to check them and then to write
+// them, so that a refusal is known before the first byte is written.
+use layout::Answer;
+use layout::Fault;
+use layout::Made;
+ghost use Prim.Native.Nat.{_≤_};
+ghost use mathlib.Core.Path.{_≡_};
+ghost use mathlib.Core.Bool.{true};
+ghost use lib.ListN.{length};
+ghost use Rattle.layout.specs.declared.Made.{Made};
+ghost use Rattle.view.specs.View.{recordsOf};
+ghost use Rattle.view.specs.Table.{shaped, viewOfTable};
+ghost use Rattle.view.specs.Outcome.{refusal, writeOf};
+
+mod forms;
+mod pass;
+mod shape;
+mod walk;
+
+// The counts of a table, and where its entry rows and its addenda begin.
+struct Sections {
+    batches: usize,
+    entries: usize,
+    addenda: usize,
+    entryrows: usize,
+    textrows: usize,
+}
+
+// Where the walk along a table has got to: the batches to come and the next one's row, the entries left in this batch, the next
+// entry's row, the row of the entry before it, and the next addendum.
+struct Cursor {
+    batches: usize,
+    batch: usize,
+    left: usize,
+    entry: usize,
+    last: usize,
+    text: usize,
+}
+
+// How many records the formed file has, filler included.
+fn records_in(table: &[u8]) -> usize
+    requires { ⌜ shaped (now table) ≡ true ⌝ }
+    ensures { λ r. ⌜ (r ≡ length (recordsOf (viewOfTable (now (table .entry))))) × (r ≤ 5000000) ⌝ }
+{
+    let s = shape::sections(table);
+    let n = 2 + 2 * s.batches + s.entries + s.addenda;
+    n + (10 - n % 10) % 10
+}
+
+// Refused with no record and no field.
+fn unmade(fault: Fault) -> Made
+    ensures { λ r. ⌜ r ≡ record { answer = refusal fault 0 0; length = 0 } ⌝ }
+{
+    Made {
+        answer: pass::refused(fault, 0, 0),
+        length: 0,
+    }
+}
+
+// Forms the table's file in front of the lent bytes. A refusal leaves them as they are: the shape's comes first, then those of the
+// formed file, then that of the room.
+pub fn write(table: &[u8], file: &mut [u8]) -> Made
+    ensures { λ r. ⌜ (r ≡ writeOf 94 (now (table .entry)) (now (file .entry)) .gives) × (now (file .exit) ≡ writeOf 94 (now (table .entry)) (now (file .entry)) .leaves) ⌝ }
+{
+    if !shape::shaped(table) {
+        return unmade(Fault::Shape);
+    }
+    let count = records_in(table);
+    if 1_000_000 < count {
+        return unmade(Fault::Length);
+    }
+    if let Answer::Refused(refusal) = pass::judged(table) {
+        return Made {
+            answer: Answer::Refused(refusal),
+            length: 0,
+        };
+    }
+    let size = 94 * count;
+    if file.len() < size {
+        return unmade(Fault::Room);
+    }
+    pass::put_formed(table, file);
+    Made {
+        answer: Answer::Granted,
+        length: size as u64,
+    }
+}

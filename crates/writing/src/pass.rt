@@ -1,0 +1,98 @@
+// The two passes over the records of the formed file: the first only checks them, the second writes them.
+use crate::Cursor;
+use crate::shape;
+use crate::walk;
+use layout::Answer;
+use layout::Fault;
+use layout::RecordNo;
+use layout::Refusal;
+use records::Verdict;
+use records::order;
+use records::step;
+use records::tally;
+ghost use Prim.Native.Nat.{_≤_};
+ghost use mathlib.Core.Path.{_≡_};
+ghost use mathlib.Core.Bool.{true};
+ghost use mathlib.Core.List.{_++_};
+ghost use lib.ListN.{length, drop};
+ghost use Rattle.layout.specs.declared.Answer.{Answer};
+ghost use Rattle.records.specs.Run.{checkedOf};
+ghost use Rattle.view.specs.View.{recordsOf};
+ghost use Rattle.view.specs.Table.{shaped, viewOfTable, formed};
+ghost use Rattle.view.specs.Outcome.{refusal};
+ghost use Rattle.writing.specs.Sections.{sizeBy};
+ghost use Rattle.writing.specs.Forming.{firstOf};
+
+pub(crate) fn refused(fault: Fault, number: u64, k: u64) -> Answer
+    ensures { λ r. ⌜ r ≡ refusal fault number k ⌝ }
+{
+    Answer::Refused(Refusal {
+        fault,
+        record: RecordNo(number),
+        field: k,
+    })
+}
+
+// The cursor before the first record.
+fn opened(table: &[u8]) -> Cursor
+    requires { ⌜ length (now table) ≡ sizeBy (now table) ⌝ }
+    ensures { λ r. ⌜ r ≡ firstOf (now (table .entry)) ⌝ }
+{
+    let s = shape::sections(table);
+    Cursor {
+        batches: s.batches,
+        batch: 97,
+        left: 0,
+        entry: s.entryrows,
+        last: 0,
+        text: s.textrows,
+    }
+}
+
+// What the check of the formed file answers. Nothing is written.
+pub(crate) fn judged(table: &[u8]) -> Answer
+    requires { ⌜ (shaped (now table) ≡ true) × (length (recordsOf (viewOfTable (now table))) ≤ 1000000) ⌝ }
+    ensures { λ r. ⌜ r ≡ checkedOf 94 (formed (now (table .entry))) .answer ⌝ }
+{
+    let mut c = opened(table);
+    let mut st = tally::start();
+    loop {
+        let place = st.place;
+        let sums = st.sums;
+        if order::complete(place, sums.records) {
+            return Answer::Granted;
+        }
+        let rec = walk::form(table, c, st);
+        let tried = step::check(st, &rec);
+        let verdict = tried.verdict;
+        if let Verdict::Failed(fault, k) = verdict {
+            return refused(fault, sums.records + 1, k);
+        }
+        c = walk::advance(table, c, place);
+        let next = tried.state;
+        st = next;
+    }
+}
+
+// Writes the formed file, which is granted, to the front of a file with room for it.
+pub(crate) fn put_formed(table: &[u8], file: &mut [u8])
+    requires { ⌜ (shaped (now table) ≡ true) × (length (recordsOf (viewOfTable (now table))) ≤ 1000000) × (checkedOf 94 (formed (now table)) .answer ≡ Answer.Granted) × (length (formed (now table)) ≤ length (now file)) ⌝ }
+    ensures { λ _. ⌜ now (file .exit) ≡ formed (now (table .entry)) ++ drop (length (formed (now (table .entry)))) (now (file .entry)) ⌝ }
+{
+    let mut c = opened(table);
+    let mut st = tally::start();
+    let mut at = 0;
+    loop {
+        let place = st.place;
+        let sums = st.sums;
+        if order::complete(place, sums.records) {
+            return;
+        }
+        let rec = walk::form(table, c, st);
+        text::copy_into(file, at, &rec);
+        let line = order::line_at(place, sums.records, rec[0]);
+        c = walk::advance(table, c, place);
+        st = tally::tally(st, line, &rec);
+        at += 94;
+    }
+}
