@@ -1,5 +1,5 @@
 /*
- * Qalarimo ACH: checking of ACH payment files (PPD and CCD).
+ * Qalarimo ACH: payment files of PPD and CCD entries.
  * Link with libach_c.a.
  */
 #ifndef ACH_H
@@ -19,7 +19,8 @@ extern "C" {
  *
  * where number (1 to 25) says why, and record and field, counted from 1, say
  * where; they are 0 where there is no place to name. A refusal leaves every
- * byte and every number that was lent as it was.
+ * byte and every number that was lent as it was. What is lent to one call
+ * must not overlap. Any bytes of any length may be lent.
  */
 #define ACH_NUMBER(answer) ((unsigned)((answer) & 0xFF))
 #define ACH_FIELD(answer)  ((unsigned)((answer) >> 8 & 0xFF))
@@ -44,6 +45,42 @@ extern "C" {
  */
 uint64_t ach_check(const uint8_t *file, size_t n,
                    uint64_t acceptance[ACH_ACCEPTANCE_LENGTH]);
+
+/*
+ * Reads the pay table of an accepted file into the `room` bytes at `table`.
+ * Granted, the table stands in front, `length` is how many bytes it has, and
+ * the bytes behind it stay. Room of 109 + 95 * batches + 93 * entries +
+ * 80 * addenda is enough; less is refused (23), after the file's refusals.
+ */
+uint64_t ach_read(const uint8_t *file, size_t n, uint8_t *table, size_t room,
+                  uint64_t *length);
+
+/*
+ * Writes the file of a pay table into the `room` bytes at `file`. A table of
+ * the wrong shape is refused (24), then come the refusals of the file that
+ * would be formed, with its records and fields, then 23. Nothing is written
+ * before the answer is known.
+ */
+uint64_t ach_write(const uint8_t *table, size_t n, uint8_t *file, size_t room,
+                   uint64_t *length);
+
+/*
+ * Puts a new amount, in cents, into entry number `entry` (from 1 through the
+ * file) of an accepted file, with the totals of its side in the batch's and
+ * the file's control. `difference` is the new amount less the old. Refused:
+ * the file's own, 25 no such entry, 14 an amount that the code does not carry,
+ * 20 a total that would pass 999,999,999,999 cents.
+ */
+uint64_t ach_alter(uint8_t *file, size_t n, uint64_t entry, uint64_t amount,
+                   int64_t *difference);
+
+/*
+ * Tells where the addendum of an entry stands: `length` bytes from `start` on
+ * in the file, or 0 and 0 where the entry has none. Refused: the file's own,
+ * then 25.
+ */
+uint64_t ach_addendum(const uint8_t *file, size_t n, uint64_t entry,
+                      uint64_t *start, uint64_t *length);
 
 #ifdef __cplusplus
 }
