@@ -1,30 +1,26 @@
 -- The three demands, sentence by sentence, over the contracts alone: whatever outcome a contract permits has these properties.
 -- Assumes nothing.
 use mathlib.Core.Path.{_≡_, refl, sym, ap, _∙_}
-use mathlib.Core.Logic.{_↔_, _≢_, _⊎_, inl, inr}
-use mathlib.Core.Bool.{Bool, true}
+use mathlib.Core.Logic.{_↔_, _⊎_, inl, inr}
+use mathlib.Core.Bool.{true}
 use mathlib.Core.List.{List, [], _∷_, _++_}
-use Prim.Native.Nat.{ℕ, _+_, _≤_}
-use native.Mathlib.Omega.{arith}
-use lib.Dec.{lit≤}
+use Prim.Native.Nat.{ℕ, _≤_}
 use lib.ListN.{length, getD, take, drop}
 use lib.Seq.{take-append-seam}
 use lib.IntN.{pos, _-ℤ_}
 use Rattle.text.specs.Decimal.{render}
-use Rattle.text.specs.Rows.{joined}
-use Rattle.layout.specs.declared.Fault.{Fault}
 use Rattle.layout.specs.declared.Answer.{Answer}
 use Rattle.layout.specs.declared.Refusal.{Refusal}
 use Rattle.layout.specs.declared.Checked.{Checked}
 use Rattle.layout.specs.declared.Made.{Made}
 use Rattle.layout.specs.declared.Altered.{Altered}
 use Rattle.layout.specs.Fields.{part, entry, batchControl, fileControl}
-use Rattle.layout.specs.Paper.{Paper, numberOf, paperOf}
-use Rattle.altering.specs.declared.Span.{Span}
-use Rattle.records.specs.Run.{checkedOf, refused}
-use Rattle.view.specs.View.{View, sumOver, debitOf, creditOf, amountOf, entriesOf, fileControlRecord, fileOf, viewOf}
-use Rattle.view.specs.Table.{shaped, formed, tableBytes, tableOf, viewOfTable}
-use Rattle.view.specs.Outcome.{made, readOf, writeOf, alterOf, addendumAnswer, addendumOf, entryAt, spotOf, entryNumber, batchControlNumber, fileControlNumber, alteredTable}
+use Rattle.layout.specs.Paper.{paperOf}
+use Rattle.altering.specs.declared.AskedSpan.{AskedSpan}
+use Rattle.records.specs.Run.{checkedOf}
+use Rattle.view.specs.View.{View, sumOver, debitOf, creditOf, amountOf, entriesOf, fileControlRecord, viewOf}
+use Rattle.view.specs.Table.{shaped, formed, tableOf, viewOfTable}
+use Rattle.view.specs.Outcome.{made, readOf, writeOf, alterOf, entryAt, spotOf, entryNumber, batchControlNumber, fileControlNumber, alteredTable}
 use Rattle.view.specs.Sized.{All}
 use Rattle.view.specs.Runs.{Alterable, tableRun, alterRun}
 use Rattle.view.proofs.Formed.{BatchControlFields, FileControlFields, file-control-fields}
@@ -33,16 +29,9 @@ use Rattle.view.proofs.Bridge.{FileOf, accepted-exactly, only-view}
 use Rattle.view.proofs.Own.{Told, own-entries, own-controls, own-table}
 use Rattle.view.proofs.RoundTrips.{read-done, write-done, read-write, write-read}
 use Rattle.view.proofs.Alter.{alter-exactly, alter-refused, alter-leaves, alter-accepted, alter-table, alter-length, alter-bytes, alter-difference, run-table, run-file, run-refused}
-use Rattle.view.proofs.Whole.{whole, whole-accepted}
-use Rattle.view.proofs.Across.{two, across}
 use Rattle.ach.specs.Contracts.{way, Checks, Reads, Writes, Alters, HandsOut, Explains, Spans, Run}
 use Rattle.ach.proofs.Bounds.{number-range}
-use Rattle.ach.proofs.Grants.{read-leaves, write-leaves, read-exactly, write-exactly, write-file, alter-amount}
-
--- what a grant of reading or writing gives, and where it stands
-done : (s : Made) (kept result held : List ℕ) → s ≡ made Answer.Granted result held .gives → kept ≡ made Answer.Granted result held .leaves
-    → (s .answer ≡ Answer.Granted) × (s .length ≡ length result) × (take (s .length) kept ≡ result)
-done s kept result held p q = rw (p, q) (refl, refl, take-append-seam result (drop (length result) held))
+use Rattle.ach.proofs.Grants.{read-leaves, write-leaves, read-exactly, write-exactly, write-file, done}
 
 -- byte i of a file lies outside of the amount of entry k, of the two totals of its batch, and of the two of the file
 pub record Elsewhere (v : View) (k i : ℕ) : Type 0 where
@@ -89,8 +78,11 @@ addendum-one f x y k p q = same p q
 pub answer-one : (f : List ℕ) (k : ℕ) (r s : Answer) → Explains f k r → Explains f k s → r ≡ s
 answer-one f k r s p q = same p q
 
-pub span-one : (f : List ℕ) (k : ℕ) (r s : Span) → Spans f k r → Spans f k s → (r .from ≡ s .from) × (r .size ≡ s .size)
-span-one f k r s p q = (same (p .0) (q .0), same (p .1) (q .1))
+spans-same : (r s : AskedSpan) → r .answer ≡ s .answer → r .from ≡ s .from → r .size ≡ s .size → r ≡ s
+spans-same r s a b c = rw (a, b, c)
+
+pub span-one : (f : List ℕ) (k : ℕ) (r s : AskedSpan) → Spans f k r → Spans f k s → r ≡ s
+span-one f k r s p q = spans-same r s (same (p .0) (q .0)) (same (p .1) (q .1)) (same (p .2) (q .2))
 
 -- It grants, or names the first refusal by number, record and field.
 
@@ -223,7 +215,7 @@ module _ (f left : List ℕ) (k a : ℕ) (r : Altered) (p : Alters f k a r left)
     difference = rw (p .0) (alter-difference f k a granted)
 
 -- After any run of alterations, refused ones among them, the file is the one written from the table with each granted amount put in, in order.
-permitted : (calls : List (ℕ × ℕ)) (f g : List ℕ) → Run calls f g → g ≡ alterRun way calls f
+pub permitted : (calls : List (ℕ × ℕ)) (f g : List ℕ) → Run calls f g → g ≡ alterRun way calls f
 unfolding alterRun
 permitted [] f g p = p
 permitted (call ∷ calls) f g p = permitted calls (p .1) g (p .3) ∙ ap (alterRun way calls) (p .2 .1)

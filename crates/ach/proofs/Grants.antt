@@ -8,11 +8,13 @@ use Prim.Native.Nat.{ℕ, _-_, _≤_, _<_, _^_}
 use native.Mathlib.Omega.{arith}
 use borrow.Author.Tests.{leb-true}
 use lib.Dec.{leb}
-use lib.ListN.{length}
+use lib.ListN.{length, take, drop}
+use lib.Seq.{take-append-seam}
 use Rattle.text.proofs.DecimalLaws.{and-both}
 use Rattle.layout.specs.declared.Fault.{Fault}
 use Rattle.layout.specs.declared.Answer.{Answer}
 use Rattle.layout.specs.declared.Refusal.{Refusal}
+use Rattle.layout.specs.declared.Made.{Made}
 use Rattle.records.specs.Run.{checkedOf}
 use Rattle.view.specs.View.{entriesOf, amountOf, fileOf, viewOf}
 use Rattle.view.specs.Table.{shaped, formed, tableOf}
@@ -103,3 +105,8 @@ alter-amount f k a e =
     ∙ ap (λ x. amountOf (entryAt x k)) (view-of-file (amend v k a) new)
     ∙ ap amountOf (entry-amended v k a s (b .0) (b .1) few)
     ∙ amended-amount (entryAt v k) a long few
+
+-- what a grant of reading or writing gives, and where it stands
+pub done : (s : Made) (kept result held : List ℕ) → s ≡ made Answer.Granted result held .gives → kept ≡ made Answer.Granted result held .leaves
+    → (s .answer ≡ Answer.Granted) × (s .length ≡ length result) × (take (s .length) kept ≡ result)
+done s kept result held p q = rw (p, q) (refl, refl, take-append-seam result (drop (length result) held))

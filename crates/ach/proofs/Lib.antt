@@ -1,3 +1,4 @@
 pub mod Bounds
 pub mod Grants
 pub mod Demands
+pub mod Idle

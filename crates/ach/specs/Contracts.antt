@@ -8,7 +8,7 @@ use Rattle.layout.specs.declared.Checked.{Checked}
 use Rattle.layout.specs.declared.Made.{Made}
 use Rattle.layout.specs.declared.Altered.{Altered}
 use Rattle.layout.specs.Fields.{recordColumns}
-use Rattle.altering.specs.declared.Span.{Span}
+use Rattle.altering.specs.declared.AskedSpan.{AskedSpan}
 use Rattle.records.specs.Run.{checkedOf}
 use Rattle.view.specs.Outcome.{readOf, writeOf, alterOf, addendumAnswer, addendumOf}
 
@@ -40,9 +40,9 @@ HandsOut f k bytes = bytes ≡ take (addendumOf way f k .size) (drop (addendumOf
 abbrev pub Explains : List ℕ → ℕ → Answer → Type 0
 Explains f k r = r ≡ addendumAnswer way f k
 
--- addendum_span: where that part stands
-abbrev pub Spans : List ℕ → ℕ → Span → Type 0
-Spans f k r = (r .from ≡ addendumOf way f k .from) × (r .size ≡ addendumOf way f k .size)
+-- asked_span: that answer, and where that part stands
+abbrev pub Spans : List ℕ → ℕ → AskedSpan → Type 0
+Spans f k r = (r .answer ≡ addendumAnswer way f k) × (r .from ≡ addendumOf way f k .from) × (r .size ≡ addendumOf way f k .size)
 
 -- calls of alter one after another, each of an entry number and an amount, from the file f to the file g: each is lent what the one before it left
 abbrev pub Run : List (ℕ × ℕ) → List ℕ → List ℕ → Type 0

@@ -48,9 +48,9 @@ pub fn addendum_answer(file: &[u8], entry: EntryNo) -> Answer
     altering::addendum_answer(file, entry)
 }
 
-// Where the addendum stands in the file, for callers that cannot be handed a part of it.
-pub fn addendum_span(file: &[u8], entry: EntryNo) -> altering::Span
+// The answer and where the addendum stands in the file, for callers that cannot be handed a part of it.
+pub fn asked_span(file: &[u8], entry: EntryNo) -> altering::AskedSpan
     ensures { λ r. ⌜ Spans (now (file .entry)) (entry .0) r ⌝ }
 {
-    altering::addendum_span(file, entry)
+    altering::asked_span(file, entry)
 }

@@ -104,9 +104,9 @@ pub extern "C" fn ach_alter(file: &mut [u8], entry: u64, amount: u64, difference
 pub extern "C" fn ach_addendum(file: &[u8], entry: u64, start: &mut u64, length: &mut u64) -> u64
     ensures { λ r. ⌜ (r ≡ codeOfAnswer (addendumAnswer recordColumns (now (file .entry)) entry)) × (now (start .exit) ≡ left (addendumAnswer recordColumns (now (file .entry)) entry) (addendumOf recordColumns (now (file .entry)) entry .from) (now (start .entry))) × (now (length .exit) ≡ left (addendumAnswer recordColumns (now (file .entry)) entry) (addendumOf recordColumns (now (file .entry)) entry .size) (now (length .entry))) ⌝ }
 {
-    let answer = ach::addendum_answer(file, EntryNo(entry));
+    let span = ach::asked_span(file, EntryNo(entry));
+    let answer = span.answer;
     if let Answer::Granted = answer {
-        let span = ach::addendum_span(file, EntryNo(entry));
         *start = span.from as u64;
         *length = span.size as u64;
         return 0;

@@ -18,8 +18,9 @@ ghost use Rattle.altering.specs.There.{There};
 mod find;
 mod side;
 
-// A part of a file: where it starts, and how long it is.
-pub struct Span {
+// The answer to a question for an addendum, and the part of the file that holds it: where it starts, and how long it is.
+pub struct AskedSpan {
+    pub answer: Answer,
     pub from: usize,
     pub size: usize,
 }
@@ -61,9 +62,9 @@ pub fn addendum_answer(file: &[u8], entry: EntryNo) -> Answer
     asked(accept::check(file), k)
 }
 
-// Where an entry's addendum stands in the file, for callers that cannot take a part of a slice.
-pub fn addendum_span(file: &[u8], entry: EntryNo) -> Span
-    ensures { λ r. ⌜ (r .from ≡ addendumOf 94 (now (file .entry)) (entry .0) .from) × (r .size ≡ addendumOf 94 (now (file .entry)) (entry .0) .size) ⌝ }
+// Answer and place in one, for callers that cannot take a part of a slice: the file is checked once.
+pub fn asked_span(file: &[u8], entry: EntryNo) -> AskedSpan
+    ensures { λ r. ⌜ (r .answer ≡ addendumAnswer 94 (now (file .entry)) (entry .0)) × (r .from ≡ addendumOf 94 (now (file .entry)) (entry .0) .from) × (r .size ≡ addendumOf 94 (now (file .entry)) (entry .0) .size) ⌝ }
 {
     let k = entry.0;
     let answer = addendum_answer(file, entry);
@@ -72,14 +73,23 @@ pub fn addendum_span(file: &[u8], entry: EntryNo) -> Span
             let at = 94 * find::entry_at(file, k);
             // column 79 says whether a record 7 follows
             if file[at + 78] != 49 {
-                return Span { from: 0, size: 0 };
+                return AskedSpan {
+                    answer: Answer::Granted,
+                    from: 0,
+                    size: 0,
+                };
             }
-            Span {
+            AskedSpan {
+                answer: Answer::Granted,
                 from: at + 97,
                 size: 80,
             }
         }
-        Answer::Refused(_) => Span { from: 0, size: 0 },
+        Answer::Refused(r) => AskedSpan {
+            answer: Answer::Refused(r),
+            from: 0,
+            size: 0,
+        },
     }
 }
 
@@ -87,7 +97,7 @@ pub fn addendum_span(file: &[u8], entry: EntryNo) -> Span
 pub fn addendum(file: &[u8], entry: EntryNo) -> &[u8]
     ensures { λ r. ⌜ now r ≡ take (addendumOf 94 (now (file .entry)) (entry .0) .size) (drop (addendumOf 94 (now (file .entry)) (entry .0) .from) (now (file .entry))) ⌝ }
 {
-    let span = addendum_span(file, entry);
+    let span = asked_span(file, entry);
     let from = span.from;
     let end = from + span.size;
     &file[from..end]
