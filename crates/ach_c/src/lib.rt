@@ -4,7 +4,7 @@ use layout::EntryNo;
 ghost use Prim.Native.Nat.{_+_, _*_, _%_, _≤_};
 ghost use mathlib.Core.Path.{_≡_};
 ghost use lib.Seq.{sets};
-ghost use Rattle.layout.specs.Fields.{recordColumns};
+ghost use Rattle.ach.specs.Contracts.{way};
 ghost use Rattle.records.specs.Run.{checkedOf};
 ghost use Rattle.ach_c.specs.Boundary.{codeOfAnswer, numbersOf, numbersLeft, left};
 ghost use Rattle.view.specs.Outcome.{readOf, writeOf, alterOf, addendumAnswer, addendumOf};
@@ -43,7 +43,7 @@ fn put_rows(numbers: &mut [u64; 21], rows: [u64; 16])
 
 #[no_mangle]
 pub extern "C" fn ach_check(file: &[u8], acceptance: &mut [u64; 21]) -> u64
-    ensures { λ r. ⌜ (r ≡ codeOfAnswer (checkedOf recordColumns (now (file .entry)) .answer)) × (now (acceptance .exit) ≡ numbersLeft (checkedOf recordColumns (now (file .entry)) .answer) (numbersOf (checkedOf recordColumns (now (file .entry)))) (now (acceptance .entry))) ⌝ }
+    ensures { λ r. ⌜ (r ≡ codeOfAnswer (checkedOf way (now (file .entry)) .answer)) × (now (acceptance .exit) ≡ numbersLeft (checkedOf way (now (file .entry)) .answer) (numbersOf (checkedOf way (now (file .entry)))) (now (acceptance .entry))) ⌝ }
 {
     let checked = ach::check(file);
     let answer = checked.answer;
@@ -62,7 +62,7 @@ pub extern "C" fn ach_check(file: &[u8], acceptance: &mut [u64; 21]) -> u64
 
 #[no_mangle]
 pub extern "C" fn ach_read(file: &[u8], table: &mut [u8], length: &mut u64) -> u64
-    ensures { λ r. ⌜ (r ≡ codeOfAnswer (readOf recordColumns (now (file .entry)) (now (table .entry)) .gives .answer)) × (now (table .exit) ≡ readOf recordColumns (now (file .entry)) (now (table .entry)) .leaves) × (now (length .exit) ≡ left (readOf recordColumns (now (file .entry)) (now (table .entry)) .gives .answer) (readOf recordColumns (now (file .entry)) (now (table .entry)) .gives .length) (now (length .entry))) ⌝ }
+    ensures { λ r. ⌜ (r ≡ codeOfAnswer (readOf way (now (file .entry)) (now (table .entry)) .gives .answer)) × (now (table .exit) ≡ readOf way (now (file .entry)) (now (table .entry)) .leaves) × (now (length .exit) ≡ left (readOf way (now (file .entry)) (now (table .entry)) .gives .answer) (readOf way (now (file .entry)) (now (table .entry)) .gives .length) (now (length .entry))) ⌝ }
 {
     let made = ach::read(file, table);
     let answer = made.answer;
@@ -75,7 +75,7 @@ pub extern "C" fn ach_read(file: &[u8], table: &mut [u8], length: &mut u64) -> u
 
 #[no_mangle]
 pub extern "C" fn ach_write(table: &[u8], file: &mut [u8], length: &mut u64) -> u64
-    ensures { λ r. ⌜ (r ≡ codeOfAnswer (writeOf recordColumns (now (table .entry)) (now (file .entry)) .gives .answer)) × (now (file .exit) ≡ writeOf recordColumns (now (table .entry)) (now (file .entry)) .leaves) × (now (length .exit) ≡ left (writeOf recordColumns (now (table .entry)) (now (file .entry)) .gives .answer) (writeOf recordColumns (now (table .entry)) (now (file .entry)) .gives .length) (now (length .entry))) ⌝ }
+    ensures { λ r. ⌜ (r ≡ codeOfAnswer (writeOf way (now (table .entry)) (now (file .entry)) .gives .answer)) × (now (file .exit) ≡ writeOf way (now (table .entry)) (now (file .entry)) .leaves) × (now (length .exit) ≡ left (writeOf way (now (table .entry)) (now (file .entry)) .gives .answer) (writeOf way (now (table .entry)) (now (file .entry)) .gives .length) (now (length .entry))) ⌝ }
 {
     let made = ach::write(table, file);
     let answer = made.answer;
@@ -88,7 +88,7 @@ pub extern "C" fn ach_write(table: &[u8], file: &mut [u8], length: &mut u64) -> 
 
 #[no_mangle]
 pub extern "C" fn ach_alter(file: &mut [u8], entry: u64, amount: u64, difference: &mut i64) -> u64
-    ensures { λ r. ⌜ (r ≡ codeOfAnswer (alterOf recordColumns (now (file .entry)) entry amount .gives .answer)) × (now (file .exit) ≡ alterOf recordColumns (now (file .entry)) entry amount .leaves) × (now (difference .exit) ≡ left (alterOf recordColumns (now (file .entry)) entry amount .gives .answer) (alterOf recordColumns (now (file .entry)) entry amount .gives .difference) (now (difference .entry))) ⌝ }
+    ensures { λ r. ⌜ (r ≡ codeOfAnswer (alterOf way (now (file .entry)) entry amount .gives .answer)) × (now (file .exit) ≡ alterOf way (now (file .entry)) entry amount .leaves) × (now (difference .exit) ≡ left (alterOf way (now (file .entry)) entry amount .gives .answer) (alterOf way (now (file .entry)) entry amount .gives .difference) (now (difference .entry))) ⌝ }
 {
     let altered = ach::alter(file, EntryNo(entry), amount);
     let answer = altered.answer;
@@ -102,7 +102,7 @@ pub extern "C" fn ach_alter(file: &mut [u8], entry: u64, amount: u64, difference
 
 #[no_mangle]
 pub extern "C" fn ach_addendum(file: &[u8], entry: u64, start: &mut u64, length: &mut u64) -> u64
-    ensures { λ r. ⌜ (r ≡ codeOfAnswer (addendumAnswer recordColumns (now (file .entry)) entry)) × (now (start .exit) ≡ left (addendumAnswer recordColumns (now (file .entry)) entry) (addendumOf recordColumns (now (file .entry)) entry .from) (now (start .entry))) × (now (length .exit) ≡ left (addendumAnswer recordColumns (now (file .entry)) entry) (addendumOf recordColumns (now (file .entry)) entry .size) (now (length .entry))) ⌝ }
+    ensures { λ r. ⌜ (r ≡ codeOfAnswer (addendumAnswer way (now (file .entry)) entry)) × (now (start .exit) ≡ left (addendumAnswer way (now (file .entry)) entry) (addendumOf way (now (file .entry)) entry .from) (now (start .entry))) × (now (length .exit) ≡ left (addendumAnswer way (now (file .entry)) entry) (addendumOf way (now (file .entry)) entry .size) (now (length .entry))) ⌝ }
 {
     let span = ach::asked_span(file, EntryNo(entry));
     let answer = span.answer;
