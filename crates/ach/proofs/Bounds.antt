@@ -1,9 +1,41 @@
--- The range of the numbers that an answer can have.
+-- How large the numbers of an answer can be: the number at most 25, the field at most 13, the record at most 1,000,001.
 -- Assumes nothing.
-use Prim.Native.Nat.{_≤_}
-use lib.Dec.{lit≤}
+use mathlib.Core.Path.{_≡_, refl}
+use mathlib.Core.Bool.{Bool, true, false, _&&_}
+use mathlib.Core.List.{List, [], _∷_}
+use Prim.Native.Nat.{ℕ, _+_, _*_, _/_, _%_, _≤_, _<_}
+use native.Mathlib.Omega.{arith}
+use borrow.Author.Tests.{leb-true}
+use lib.Dec.{leb, eqb, lit≤}
+use lib.IntN.{ℤ}
+use lib.ListN.{length}
+use Rattle.text.specs.Decimal.{pick}
+use Rattle.text.specs.Rows.{rows}
+use Rattle.text.proofs.DecimalLaws.{and-both}
+use Rattle.text.proofs.RowLaws.{length-rows}
 use Rattle.layout.specs.declared.Fault.{Fault}
+use Rattle.layout.specs.declared.Answer.{Answer}
+use Rattle.layout.specs.declared.Refusal.{Refusal}
+use Rattle.layout.specs.declared.Row.{Row}
+use Rattle.layout.specs.declared.Line.{Line}
+use Rattle.layout.specs.Fields.{rowsOf, firstField}
 use Rattle.layout.specs.Paper.{numberOf}
+use Rattle.rules.specs.declared.Mark.{Mark}
+use Rattle.rules.specs.declared.Sums.{Sums}
+use Rattle.rules.specs.declared.Code.{Code}
+use Rattle.rules.specs.Field.{fieldOf}
+use Rattle.rules.specs.Codes.{codeOf, carries}
+use Rattle.records.specs.declared.State.{State}
+use Rattle.records.specs.declared.Verdict.{Verdict}
+use Rattle.records.specs.Order.{complete}
+use Rattle.records.specs.Tally.{start, tally}
+use Rattle.records.specs.Run.{found, fieldsFrom, lineOf, refused, accepted, runFrom, lengthFits, mostRecords, checkedOf}
+use Rattle.view.specs.View.{View, entriesOf, sumOver, debitOf, creditOf, amountOf, codeIn, fileOf, viewOf}
+use Rattle.view.specs.Table.{shaped, formed, tableOf}
+use Rattle.view.specs.Outcome.{Spot, refusal, demand, andThen, room, made, readOf, writeOf, entryAt, exists, spotOf, entryNumber, batchControlNumber, fileControlNumber, amend, within, limits, alterAnswer, altered, alterOf, addendumAnswer}
+use Rattle.view.proofs.Bridge.{accepted-view}
+use Rattle.view.proofs.BridgeWalk.{carry}
+use Rattle.altering.proofs.Places.{in-order}
 
 -- the paper's numbers are 1 to 25
 pub number-range : (f : Fault) → (1 ≤ numberOf f) × (numberOf f ≤ 25)
@@ -32,3 +64,149 @@ number-range Fault.Batch = (lit≤ tt, lit≤ tt)
 number-range Fault.Room = (lit≤ tt, lit≤ tt)
 number-range Fault.Shape = (lit≤ tt, lit≤ tt)
 number-range Fault.NoEntry = (lit≤ tt, lit≤ tt)
+
+-- what is refused has a field and a record within these bounds
+pub record Bounded (x : Refusal) : Type 0 where
+  pub field : x .field ≤ 13
+  pub number : x .record .0 ≤ 1000001
+
+abbrev pub Low : Answer → Type 0
+Low Answer.Granted = Unit {0}
+Low (Answer.Refused x) = Bounded x
+
+pub low-refused : (a : Answer) (x : Refusal) → Low a → a ≡ Answer.Refused x → Bounded x
+low-refused a x l e = rw e at l
+
+-- ---- the check
+
+-- no table has more than thirteen fields
+abbrev LowVerdict : ℕ → Verdict → Type 0
+LowVerdict n Verdict.Passed = Unit {0}
+LowVerdict n (Verdict.Failed fault k) = k < n
+
+fields-low : (k n : ℕ) (rows : List Row) (s : Sums) (h r : List ℕ) → k + length rows ≤ n → LowVerdict n (fieldsFrom k rows s h r)
+unfolding fieldsFrom
+fields-low k n [] s h r l = tt
+fields-low k n (row ∷ rows) s h r l = go (fieldOf s h r row) (fields-low (k + 1) n rows s h r (omega (arith, l)))
+  where
+    go : (m : Mark) → LowVerdict n (fieldsFrom (k + 1) rows s h r) → LowVerdict n (found m k (fieldsFrom (k + 1) rows s h r))
+    go Mark.Right later = later
+    go (Mark.Wrong fault) later = omega (arith, l)
+
+line-low : (line : Line) → firstField line + length (rowsOf line) ≤ 14
+line-low Line.FileHeader = lit≤ tt
+line-low Line.BatchHeader = lit≤ tt
+line-low Line.Entry = lit≤ tt
+line-low Line.Addendum = lit≤ tt
+line-low Line.BatchControl = lit≤ tt
+line-low Line.FileControl = lit≤ tt
+line-low Line.Filler = lit≤ tt
+line-low Line.Past = lit≤ tt
+line-low Line.Other = lit≤ tt
+
+-- every record is counted
+one-more : (st : State) (line : Line) (r : List ℕ) → tally st line r .sums .records ≡ st .sums .records + 1
+one-more st Line.FileHeader r = refl
+one-more st Line.BatchHeader r = refl
+one-more st Line.Entry r = refl
+one-more st Line.Addendum r = refl
+one-more st Line.BatchControl r = refl
+one-more st Line.FileControl r = refl
+one-more st Line.Filler r = refl
+one-more st Line.Past r = refl
+one-more st Line.Other r = refl
+
+run-low : (st : State) (rs : List (List ℕ)) → st .sums .records + length rs ≤ 1000000 → Low (runFrom st rs .answer)
+unfolding runFrom
+run-low st [] l = go (complete (st .place) (st .sums .records))
+  where
+    go : (b : Bool) → Low (pick b (accepted st) (refused Fault.Ended (st .sums .records + 1) 0) .answer)
+    go true = tt
+    go false = record { field = lit≤ tt; number = omega (arith, l) }
+run-low st (r ∷ rs) l =
+    go (fieldsFrom (firstField (lineOf st r)) (rowsOf (lineOf st r)) (st .sums) (st .header) r)
+    (fields-low (firstField (lineOf st r)) 14 (rowsOf (lineOf st r)) (st .sums) (st .header) r (line-low (lineOf st r)))
+    (run-low (tally st (lineOf st r) r) rs (omega (arith, l, one-more st (lineOf st r) r)))
+  where
+    go : (v : Verdict) → LowVerdict 14 v → Low (runFrom (tally st (lineOf st r) r) rs .answer) → Low (carry v (tally st (lineOf st r) r) st rs .answer)
+    go Verdict.Passed f later = later
+    go (Verdict.Failed fault k) f later = record { field = omega (arith, f); number = omega (arith, l) }
+
+pub check-low : (f : List ℕ) → Low (checkedOf 94 f .answer)
+check-low f = go (lengthFits 94 (length f)) refl
+  where
+    go : (b : Bool) → lengthFits 94 (length f) ≡ b → Low (pick b (runFrom start (rows 94 (length f / 94) f)) (refused Fault.Length 0 0) .answer)
+    go false h = record { field = lit≤ tt; number = lit≤ tt }
+    go true h =
+        let most = leb-true (length f) (94 * mostRecords) (and-both (leb 1 (length f) && eqb (length f % 94) 0) (leb (length f) (94 * mostRecords)) h .1) in
+        run-low start (rows 94 (length f / 94) f) (rw (length-rows 94 (length f / 94) f) (omega (arith, most)))
+
+-- ---- the other questions
+
+low-then : (a b : Answer) → Low a → (a ≡ Answer.Granted → Low b) → Low (andThen a b)
+low-then Answer.Granted b l m = m refl
+low-then (Answer.Refused x) b l m = l
+
+low-demand : (t : Bool) (refuse rest : Answer) → Low refuse → (t ≡ true → Low rest) → Low (demand t refuse rest)
+low-demand true refuse rest l m = m refl
+low-demand false refuse rest l m = l
+
+-- a refusal of the whole, of no record and no field
+low-whole : (fault : Fault) → Low (refusal fault 0 0)
+low-whole fault = record { field = lit≤ tt; number = lit≤ tt }
+
+low-made : (x : Answer) (result buffer : List ℕ) → Low x → Low (made x result buffer .gives .answer)
+low-made Answer.Granted result buffer l = tt
+low-made (Answer.Refused x) result buffer l = l
+
+low-altered : (x : Answer) (d : ℤ) (result f : List ℕ) → Low x → Low (altered x d result f .gives .answer)
+low-altered Answer.Granted d result f l = tt
+low-altered (Answer.Refused x) d result f l = l
+
+low-room : (result buffer : List ℕ) → Low (room result buffer)
+low-room result buffer = low-demand (leb (length result) (length buffer)) (refusal Fault.Room 0 0) Answer.Granted (low-whole Fault.Room) λ e. tt
+
+pub read-low : (f table : List ℕ) → Low (readOf 94 f table .gives .answer)
+read-low f table =
+    low-made (andThen (checkedOf 94 f .answer) (room (tableOf 94 f) table)) (tableOf 94 f) table
+    (low-then (checkedOf 94 f .answer) (room (tableOf 94 f) table) (check-low f) λ e. low-room (tableOf 94 f) table)
+
+pub write-low : (t file : List ℕ) → Low (writeOf 94 t file .gives .answer)
+write-low t file =
+    let tried = andThen (checkedOf 94 (formed t) .answer) (room (formed t) file) in
+    low-made (demand (shaped t) (refusal Fault.Shape 0 0) tried) (formed t) file
+    (low-demand (shaped t) (refusal Fault.Shape 0 0) tried (low-whole Fault.Shape)
+    λ h. low-then (checkedOf 94 (formed t) .answer) (room (formed t) file) (check-low (formed t)) λ e. low-room (formed t) file)
+
+pub addendum-low : (f : List ℕ) (k : ℕ) → Low (addendumAnswer 94 f k)
+addendum-low f k =
+    low-then (checkedOf 94 f .answer) _ (check-low f)
+    λ e. low-demand (exists (viewOf 94 f) k) (refusal Fault.NoEntry 0 0) Answer.Granted (low-whole Fault.NoEntry) λ h. tt
+
+two-low : (t u : Bool) (m n j k : ℕ) → m ≤ 1000001 → n ≤ 1000001 → j ≤ 13 → k ≤ 13 → Low (demand t (refusal Fault.Limit m j) (demand u (refusal Fault.Limit n k) Answer.Granted))
+two-low false u m n j k p q f g = record { field = f; number = p }
+two-low true false m n j k p q f g = record { field = g; number = q }
+two-low true true m n j k p q f g = tt
+
+limits-low : (v : View) (s : Spot) (c : Code) (old new : ℕ) → batchControlNumber s ≤ 1000001 → fileControlNumber v ≤ 1000001 → Low (limits v s c old new)
+limits-low v s Code.Unknown old new p q = tt
+limits-low v s (Code.Credit u) old new p q =
+    two-low (within (sumOver creditOf (s .batch .entries)) old new) (within (sumOver creditOf (entriesOf v)) old new) (batchControlNumber s) (fileControlNumber v) 6 7 p q (lit≤ tt) (lit≤ tt)
+limits-low v s (Code.Debit u) old new p q =
+    two-low (within (sumOver debitOf (s .batch .entries)) old new) (within (sumOver debitOf (entriesOf v)) old new) (batchControlNumber s) (fileControlNumber v) 5 6 p q (lit≤ tt) (lit≤ tt)
+
+pub alter-low : (f : List ℕ) (k a : ℕ) → Low (alterOf 94 f k a .gives .answer)
+alter-low f k a =
+    let v = viewOf 94 f in
+    let c = codeOf (codeIn (entryAt v k)) in
+    let amount = refusal Fault.Amount (entryNumber (spotOf v k)) 6 in
+    let last = limits v (spotOf v k) c (amountOf (entryAt v k)) a in
+    low-altered (alterAnswer 94 f k a) _ (fileOf (amend v k a)) f
+    (low-then (checkedOf 94 f .answer) (demand (exists v k) (refusal Fault.NoEntry 0 0) (demand (carries c a) amount last)) (check-low f)
+    λ g. low-demand (exists v k) (refusal Fault.NoEntry 0 0) (demand (carries c a) amount last) (low-whole Fault.NoEntry)
+    λ x.
+    let b = and-both (leb 1 k) (leb k (length (entriesOf v))) x in
+    let order = in-order v k (leb-true 1 k (b .0)) (leb-true k (length (entriesOf v)) (b .1)) in
+    let fits = accepted-view f g .keeps .fits in
+    low-demand (carries c a) amount last (record { field = lit≤ tt; number = omega (arith, order .0, order .1, order .2, fits) })
+    λ y. limits-low v (spotOf v k) c (amountOf (entryAt v k)) a (omega (arith, order .1, order .2, fits)) (omega (arith, order .2, fits)))
