@@ -3,7 +3,6 @@
 use Prim.Native.Nat.{ℕ, _≤_}
 use mathlib.Core.Path.{_≡_, refl, sym}
 use mathlib.Core.List.{List, [], _∷_}
-use lib.Dec.{lit≤}
 use lib.Seq.{sets}
 use Rattle.text.proofs.SetLaws.{sets-append}
 use Rattle.layout.specs.declared.Answer.{Answer}
@@ -11,34 +10,11 @@ use Rattle.layout.specs.declared.Checked.{Checked}
 use Rattle.layout.specs.declared.Refusal.{Refusal}
 use Rattle.layout.specs.declared.Fault.{Fault}
 use Rattle.layout.specs.Paper.{numberOf}
+use Rattle.ach.proofs.Bounds.{number-range}
 use Rattle.ach_c.specs.Boundary.{codeOfAnswer, numbersOf, numbersLeft, left}
 
 pub number-le : (f : Fault) → numberOf f ≤ 25
-number-le Fault.Length = lit≤ tt
-number-le Fault.Ended = lit≤ tt
-number-le Fault.Misplaced = lit≤ tt
-number-le Fault.Past = lit≤ tt
-number-le Fault.Fixed = lit≤ tt
-number-le Fault.Digits = lit≤ tt
-number-le Fault.Text = lit≤ tt
-number-le Fault.Blank = lit≤ tt
-number-le Fault.Leading = lit≤ tt
-number-le Fault.Date = lit≤ tt
-number-le Fault.Value = lit≤ tt
-number-le Fault.CheckDigit = lit≤ tt
-number-le Fault.Bank = lit≤ tt
-number-le Fault.Amount = lit≤ tt
-number-le Fault.Side = lit≤ tt
-number-le Fault.Trace = lit≤ tt
-number-le Fault.BatchNumber = lit≤ tt
-number-le Fault.Count = lit≤ tt
-number-le Fault.Hash = lit≤ tt
-number-le Fault.Limit = lit≤ tt
-number-le Fault.Total = lit≤ tt
-number-le Fault.Batch = lit≤ tt
-number-le Fault.Room = lit≤ tt
-number-le Fault.Shape = lit≤ tt
-number-le Fault.NoEntry = lit≤ tt
+number-le f = number-range f .1
 
 -- what a granted check leaves in the lent numbers
 pub granted-left : (c d : Checked) (lent : List ℕ) → c ≡ d → c .answer ≡ Answer.Granted
