@@ -105,7 +105,7 @@ line-low Line.Past = lit≤ tt
 line-low Line.Other = lit≤ tt
 
 -- every record is counted
-one-more : (st : State) (line : Line) (r : List ℕ) → tally st line r .sums .records ≡ st .sums .records + 1
+pub one-more : (st : State) (line : Line) (r : List ℕ) → tally st line r .sums .records ≡ st .sums .records + 1
 one-more st Line.FileHeader r = refl
 one-more st Line.BatchHeader r = refl
 one-more st Line.Entry r = refl

@@ -2,13 +2,15 @@
 -- Assumes nothing.
 use mathlib.Core.Path.{_≡_, refl, sym, ap, _∙_}
 use mathlib.Core.Logic.{_↔_, _⊎_, inl, inr}
-use mathlib.Core.Bool.{true}
+use mathlib.Core.Bool.{true, false}
 use mathlib.Core.List.{List, [], _∷_, _++_}
-use Prim.Native.Nat.{ℕ, _≤_}
+use Prim.Native.Nat.{ℕ, _/_, _≤_}
 use lib.ListN.{length, getD, take, drop}
 use lib.Seq.{take-append-seam}
 use lib.IntN.{pos, _-ℤ_}
 use Rattle.text.specs.Decimal.{render}
+use Rattle.text.specs.Rows.{rows}
+use Rattle.layout.specs.declared.Fault.{Fault}
 use Rattle.layout.specs.declared.Answer.{Answer}
 use Rattle.layout.specs.declared.Refusal.{Refusal}
 use Rattle.layout.specs.declared.Checked.{Checked}
@@ -17,7 +19,8 @@ use Rattle.layout.specs.declared.Altered.{Altered}
 use Rattle.layout.specs.Fields.{part, entry, batchControl, fileControl}
 use Rattle.layout.specs.Paper.{paperOf}
 use Rattle.altering.specs.declared.AskedSpan.{AskedSpan}
-use Rattle.records.specs.Run.{checkedOf}
+use Rattle.records.specs.Tally.{start}
+use Rattle.records.specs.Run.{lengthFits, checkedOf}
 use Rattle.view.specs.View.{View, sumOver, debitOf, creditOf, amountOf, entriesOf, fileControlRecord, viewOf}
 use Rattle.view.specs.Table.{shaped, formed, tableOf, viewOfTable}
 use Rattle.view.specs.Outcome.{made, readOf, writeOf, alterOf, entryAt, spotOf, entryNumber, batchControlNumber, fileControlNumber, alteredTable}
@@ -31,6 +34,7 @@ use Rattle.view.proofs.RoundTrips.{read-done, write-done, read-write, write-rea
 use Rattle.view.proofs.Alter.{alter-exactly, alter-refused, alter-leaves, alter-accepted, alter-table, alter-length, alter-bytes, alter-difference, run-table, run-file, run-refused}
 use Rattle.ach.specs.Contracts.{way, Checks, Reads, Writes, Alters, HandsOut, Explains, Spans, Run}
 use Rattle.ach.proofs.Bounds.{number-range}
+use Rattle.ach.proofs.First.{First, refused-first}
 use Rattle.ach.proofs.Grants.{read-leaves, write-leaves, read-exactly, write-exactly, write-file, done}
 
 -- byte i of a file lies outside of the amount of entry k, of the two totals of its batch, and of the two of the file
@@ -91,7 +95,11 @@ pub grants-or-names : (a : Answer) → ((a ≡ Answer.Granted) × (paperOf a .nu
 grants-or-names Answer.Granted = inl (refl, refl)
 grants-or-names (Answer.Refused x) = inr (x, refl, number-range (x .fault) .0, number-range (x .fault) .1)
 
--- check's is the one where the run over records and fields in order stops
+-- check's is the one where the run over records and fields in order stops: all records before passed, and all fields before were right
+pub check-first : (f : List ℕ) (r : Checked) (x : Refusal) → Checks f r → r .answer ≡ Answer.Refused x
+    → ((lengthFits way (length f) ≡ false) × (x .fault ≡ Fault.Length) × (x .record .0 ≡ 0) × (x .field ≡ 0)) ⊎ First start (rows way (length f / way) f) x
+check-first f r x p e = refused-first f x (rw (← p) e)
+
 pub check-names : (f : List ℕ) (r : Checked) → Checks f r → paperOf (r .answer) ≡ paperOf (checkedOf way f .answer)
 check-names f r p = ap (λ c. paperOf (c .answer)) p
 

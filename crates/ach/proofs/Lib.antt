@@ -1,4 +1,5 @@
 pub mod Bounds
+pub mod First
 pub mod Grants
 pub mod Demands
 pub mod Idle
