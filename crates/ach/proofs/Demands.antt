@@ -9,7 +9,7 @@ use lib.ListN.{length, getD, take, drop}
 use lib.Seq.{take-append-seam}
 use lib.IntN.{pos, _-ℤ_}
 use Rattle.text.specs.Decimal.{render}
-use Rattle.text.specs.Rows.{rows}
+use Rattle.text.specs.Rows.{rows, joined}
 use Rattle.layout.specs.declared.Fault.{Fault}
 use Rattle.layout.specs.declared.Answer.{Answer}
 use Rattle.layout.specs.declared.Refusal.{Refusal}
@@ -23,7 +23,7 @@ use Rattle.records.specs.Tally.{start}
 use Rattle.records.specs.Run.{lengthFits, checkedOf}
 use Rattle.view.specs.View.{View, sumOver, debitOf, creditOf, amountOf, entriesOf, fileControlRecord, viewOf}
 use Rattle.view.specs.Table.{shaped, formed, tableOf, viewOfTable}
-use Rattle.view.specs.Outcome.{made, readOf, writeOf, alterOf, entryAt, spotOf, entryNumber, batchControlNumber, fileControlNumber, alteredTable}
+use Rattle.view.specs.Outcome.{made, readOf, writeOf, alterOf, addendumAnswer, addendumOf, entryAt, spotOf, entryNumber, batchControlNumber, fileControlNumber, alteredTable}
 use Rattle.view.specs.Sized.{All}
 use Rattle.view.specs.Runs.{Alterable, tableRun, alterRun}
 use Rattle.view.proofs.Formed.{BatchControlFields, FileControlFields, file-control-fields}
@@ -32,6 +32,7 @@ use Rattle.view.proofs.Bridge.{FileOf, accepted-exactly, only-view}
 use Rattle.view.proofs.Own.{Told, own-entries, own-controls, own-table}
 use Rattle.view.proofs.RoundTrips.{read-done, write-done, read-write, write-read}
 use Rattle.view.proofs.Alter.{alter-exactly, alter-refused, alter-leaves, alter-accepted, alter-table, alter-length, alter-bytes, alter-difference, run-table, run-file, run-refused}
+use Rattle.altering.proofs.Addenda.{granted-there, part-refused, handed}
 use Rattle.ach.specs.Contracts.{way, Checks, Reads, Writes, Alters, HandsOut, Explains, Spans, Run}
 use Rattle.ach.proofs.Bounds.{number-range}
 use Rattle.ach.proofs.First.{First, refused-first}
@@ -59,6 +60,12 @@ write-ends t held = (writeOf way t held .gives, writeOf way t held .leaves, (ref
 
 pub alter-ends : (f : List ℕ) (k a : ℕ) → (r : Altered) × (left : List ℕ) × Alters f k a r left
 alter-ends f k a = (alterOf way f k a .gives, alterOf way f k a .leaves, (refl, refl))
+
+pub addendum-ends : (f : List ℕ) (k : ℕ) → ((bytes : List ℕ) × HandsOut f k bytes) × ((e : Answer) × Explains f k e) × ((r : AskedSpan) × Spans f k r)
+addendum-ends f k =
+    let p = addendumOf way f k in
+    let e = addendumAnswer way f k in
+    ((take (p .size) (drop (p .from) f), refl), (e, refl), (record { answer = e; from = p .from; size = p .size }, (refl, refl, refl)))
 
 -- and no other: any two permitted outcomes coincide, the result and the content of all that is lent
 same : {A : Type 0} {x y z : A} → x ≡ z → y ≡ z → x ≡ y
@@ -256,3 +263,11 @@ run-ends (call ∷ calls) f =
     let s = alter-ends f (call .0) (call .1) in
     let e = run-ends calls (s .1) in
     (e .0, (s .0, s .1, s .2, e .1))
+
+-- ---- An entry's addendum is handed out: it is the addendum that the file says of that entry, or empty where it has none or the question is refused.
+
+pub addendum-handed : (f bytes : List ℕ) (k : ℕ) (e : Answer) → HandsOut f k bytes → Explains f k e → e ≡ Answer.Granted → bytes ≡ joined (entryAt (viewOf way f) k .addenda)
+addendum-handed f bytes k e p q g = let h = sym q ∙ g in p ∙ handed f k (granted-there f k h) h
+
+pub addendum-refused : (f bytes : List ℕ) (k : ℕ) (e : Answer) (x : Refusal) → HandsOut f k bytes → Explains f k e → e ≡ Answer.Refused x → bytes ≡ []
+addendum-refused f bytes k e x p q g = p ∙ ap (λ o. take (o .size) (drop (o .from) f)) (part-refused f k x (sym q ∙ g))

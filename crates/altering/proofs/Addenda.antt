@@ -2,33 +2,38 @@
 -- Assumes nothing.
 use mathlib.Core.Path.{_≡_, refl, sym, ap, _∙_, subst}
 use mathlib.Core.Bool.{Bool, true, false, _&&_}
-use mathlib.Core.List.{List, [], _∷_}
+use mathlib.Core.List.{List, [], _∷_, append-nil}
 use Prim.Native.Nat.{ℕ, _+_, _-_, _*_, _/_, _≤_, _<_}
 use native.Mathlib.Omega.{arith}
 use borrow.Author.Tests.{leb-true, eq-eqb, ne-eqb, eqb-false}
-use lib.Dec.{leb, ltb, eqb, lit<}
-use lib.ListN.{length, getD, drop}
+use lib.Dec.{leb, ltb, eqb, lit<, lit≤}
+use lib.ListN.{length, getD, take, drop}
 use Rattle.text.specs.Decimal.{pick}
 use Rattle.text.proofs.DecimalLaws.{and-both}
 use Rattle.text.proofs.RowLaws.{getD-columns}
+use Rattle.text.specs.Rows.{joined}
+use Rattle.text.specs.Widths.{AllLong}
 use Rattle.layout.specs.declared.Answer.{Answer}
 use Rattle.layout.specs.declared.Refusal.{Refusal}
 use Rattle.layout.specs.declared.Fault.{Fault}
 use Rattle.records.specs.Order.{takesAddendum}
 use Rattle.records.specs.Run.{checkedOf}
-use Rattle.view.specs.View.{Entry, View, entryRecord, entriesOf, recordsOf, viewOf}
+use Rattle.view.specs.View.{Entry, View, entryRecord, addendumRecord, entriesOf, recordsOf, viewOf}
 use Rattle.view.specs.Sized.{SizedEntry}
 use Rattle.view.specs.Outcome.{Part, noPart, noEntry, entryAt, refusal, demand, andThen, spotOf, entryNumber, addendumAnswer, addendumPartOf, partIf, addendumOf}
 use Rattle.view.proofs.Lists.{all-at}
 use Rattle.view.proofs.Tables.{entries-sized}
 use Rattle.view.proofs.Bridge.{accepted-view}
 use Rattle.view.proofs.BridgeFields.{by-eq}
-use Rattle.view.proofs.Own.{own-entries}
+use Rattle.view.proofs.Own.{own-entries, own-records}
+use Rattle.view.proofs.Amend.{spot-entry}
+use Rattle.view.proofs.Formed.{addendum-fields}
 use Rattle.altering.specs.Find.{allRecords, nthOf}
 use Rattle.altering.specs.There.{There, EntryAt}
 use Rattle.altering.specs.Asked.{askedOf}
-use Rattle.altering.proofs.Parts.{record-byte}
+use Rattle.altering.proofs.Parts.{record-byte, record-part}
 use Rattle.altering.proofs.Accepted.{entry-at, entry-text}
+use Rattle.altering.proofs.Places.{addendum-behind}
 
 -- ---- the question
 
@@ -110,3 +115,48 @@ part-inside f k = go (addendumAnswer 94 f k) refl
 -- a part is told by its two numbers
 pub both : {p q : Part} → p ≡ q → (q .from ≡ p .from) × (q .size ≡ p .size)
 both e = (ap (λ x. x .from) (sym e), ap (λ x. x .size) (sym e))
+
+-- ---- what it says
+
+one-most : (b : Bool) → pick b 1 0 ≤ 1
+one-most true = lit≤ tt
+one-most false = lit≤ tt
+
+module _ (f : List ℕ) (k : ℕ) (t : There f k) where
+  -- the entry's addendum stands behind its record, in columns 4-83
+  addendum-text : (text : List ℕ) → entryAt (viewOf 94 f) k .addenda ≡ text ∷ [] → take 80 (drop (94 * entryNumber (spotOf (viewOf 94 f) k) + 3) f) ≡ text
+  addendum-text text h =
+      let v = viewOf 94 f in
+      let n = entryNumber (spotOf v k) in
+      let s = accepted-view f (t .accepted) .sized in
+      let same = spot-entry v k 0 s (t .first) (t .last) (lit< tt) in
+      let sized = all-at SizedEntry (entriesOf v) (k - 1) noEntry (entries-sized (v .batches) (s .each)) (omega (arith, t .first, t .last)) in
+      let i = nthOf 54 (k - 1) (allRecords f) in
+      let at = entry-at f k t i (omega arith) in
+      let fields = addendum-fields (entryAt v k) text (sized .long) (subst (AllLong 80) h (sized .texts) .0) in
+      sym (record-part f n (omega (arith, at .number, at .inside)) 3 80 (lit≤ tt))
+      ∙ ap (λ rs. take 80 (drop 3 (getD rs n []))) (own-records f (t .accepted))
+      ∙ ap (λ r. take 80 (drop 3 r)) (addendum-behind v k (t .first) (t .last) text (ap (λ e. e .addenda) same ∙ h) ∙ ap (λ e. addendumRecord e text) same)
+      ∙ fields .whole
+
+  -- so the part that is handed back is the entry's addendum, or empty where it has none
+  pub handed : addendumAnswer 94 f k ≡ Answer.Granted → take (addendumOf 94 f k .size) (drop (addendumOf 94 f k .from) f) ≡ joined (entryAt (viewOf 94 f) k .addenda)
+  unfolding joined
+  handed g = ap (λ a. cut (partIf a (place (entryAt (viewOf 94 f) k .addenda)))) g ∙ go (entryAt (viewOf 94 f) k .addenda) refl
+    where
+      cut : Part → List ℕ
+      cut p = take (p .size) (drop (p .from) f)
+
+      place : List (List ℕ) → Part
+      place texts = pick (ltb 0 (length texts)) (record { from = 94 * entryNumber (spotOf (viewOf 94 f) k) + 3; size = 80 }) noPart
+
+      few : length (entryAt (viewOf 94 f) k .addenda) ≤ 1
+      few =
+          let v = viewOf 94 f in
+          let sized = all-at SizedEntry (entriesOf v) (k - 1) noEntry (entries-sized (v .batches) (accepted-view f (t .accepted) .sized .each)) (omega (arith, t .first, t .last)) in
+          subst (λ n. n ≤ 1) (sym (sized .due)) (one-most (takesAddendum (54 ∷ entryAt v k .row)))
+
+      go : (texts : List (List ℕ)) → entryAt (viewOf 94 f) k .addenda ≡ texts → cut (place (entryAt (viewOf 94 f) k .addenda)) ≡ joined (entryAt (viewOf 94 f) k .addenda)
+      go [] h = ap (λ ts. cut (place ts)) h ∙ ap joined (sym h)
+      go (x ∷ []) h = ap (λ ts. cut (place ts)) h ∙ addendum-text x h ∙ sym (append-nil x) ∙ ap joined (sym h)
+      go (x ∷ y ∷ texts) h = absurd (omega (arith, few, ap length h))

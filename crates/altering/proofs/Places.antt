@@ -9,7 +9,7 @@ use native.Mathlib.Omega.{arith}
 use borrow.Author.Tests.{eq-eqb, ne-eqb}
 use lib.Dec.{eqb}
 use lib.ListN.{length, take, drop, getD, replicate, length-append, length-map, length-take, take-append-drop}
-use lib.Seq.{drop-cons, drop-at, length-take-le}
+use lib.Seq.{getD-append-add, drop-cons, drop-at, length-take-le}
 use mathlib.Core.Bool.{false}
 use Rattle.text.specs.Decimal.{pick}
 use Rattle.text.specs.Rows.{joined}
@@ -132,6 +132,11 @@ regroup : (x b c : List ℕ) (p t d q e : List (List ℕ))
     → (x ∷ (p ++ ((b ∷ ((t ++ d) ++ (c ∷ []))) ++ q))) ++ e ≡ (x ∷ (p ++ (b ∷ t))) ++ (d ++ (c ∷ (q ++ e)))
 regroup x b c p t d q e = ap (λ l. x ∷ l) (simp append-assoc)
 
+-- a record's only addendum is the second of its records
+second : (r : List ℕ) (e : Entry) (text : List ℕ) (texts : List (List ℕ)) (p q : List (List ℕ)) → texts ≡ text ∷ []
+    → getD (r ∷ ((map (addendumRecord e) texts ++ p) ++ q)) 1 [] ≡ addendumRecord e text
+second r e text texts p q h = rw h
+
 module _ (v : View) (k : ℕ) (first : 1 ≤ k) (last : k ≤ length (entriesOf v)) where
   at : Parted (k - 1) 2 (v .batches)
   at = parted (k - 1) 2 (v .batches) (omega arith)
@@ -181,6 +186,20 @@ module _ (v : View) (k : ℕ) (first : 1 ≤ k) (last : k ≤ length (entriesOf 
 
   entry-index : nthOf 54 (k - 1) (recordsOf v) ≡ length front
   entry-index = rw (records-parted, ← count-front, tail-head) (nth-split 54 front (entryRecord (getD es (at .index) noEntry)) _ refl)
+
+  -- and its addendum, if it has one
+  pub addendum-behind : (text : List ℕ) → getD (spotOf v k .batch .entries) (spotOf v k .index) noEntry .addenda ≡ text ∷ []
+      → getD (recordsOf v) (entryNumber (spotOf v k)) [] ≡ addendumRecord (getD (spotOf v k .batch .entries) (spotOf v k .index) noEntry) text
+  unfolding es
+  addendum-behind text h =
+      let e = getD es (at .index) noEntry in
+      let one : e .addenda ≡ text ∷ [] = ap (λ s. getD (s .batch .entries) (s .index) noEntry .addenda) (sym (at .spot)) ∙ h in
+      ap (λ n. getD (recordsOf v) n []) (sym length-front)
+      ∙ ap (λ rs. getD rs (length front + 1) []) records-parted
+      ∙ getD-append-add front tail 1 []
+      ∙ ap (λ rs. getD rs 1 []) tail-head
+      ∙ second (entryRecord e) e text (e .addenda) _ _ one
+      ∙ ap (λ s. addendumRecord (getD (s .batch .entries) (s .index) noEntry) text) (sym (at .spot))
 
   -- behind its batch's entries the batch's control
   control-index : nthOf 56 0 (drop (length front) (recordsOf v)) ≡ length (entriesRecords (drop (at .index) es))
