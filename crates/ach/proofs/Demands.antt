@@ -8,7 +8,7 @@ use Prim.Native.Nat.{ℕ, _/_, _≤_}
 use lib.ListN.{length, getD, take, drop}
 use lib.Seq.{take-append-seam}
 use lib.IntN.{pos, _-ℤ_}
-use Rattle.text.specs.Decimal.{render}
+use Rattle.text.specs.Decimal.{pick, render}
 use Rattle.text.specs.Rows.{rows, joined}
 use Rattle.layout.specs.declared.Fault.{Fault}
 use Rattle.layout.specs.declared.Answer.{Answer}
@@ -21,17 +21,17 @@ use Rattle.layout.specs.Paper.{paperOf}
 use Rattle.altering.specs.declared.AskedSpan.{AskedSpan}
 use Rattle.records.specs.Tally.{start}
 use Rattle.records.specs.Run.{lengthFits, checkedOf}
-use Rattle.view.specs.View.{View, sumOver, debitOf, creditOf, amountOf, entriesOf, fileControlRecord, viewOf}
+use Rattle.view.specs.View.{View, sumOver, debitOf, creditOf, amountOf, entriesOf, fileControlRecord, recordsOf, viewOf}
 use Rattle.view.specs.Table.{shaped, formed, tableOf, viewOfTable}
 use Rattle.view.specs.Outcome.{made, readOf, writeOf, alterOf, addendumAnswer, addendumOf, entryAt, spotOf, entryNumber, batchControlNumber, fileControlNumber, alteredTable}
 use Rattle.view.specs.Sized.{All}
-use Rattle.view.specs.Runs.{Alterable, tableRun, alterRun}
+use Rattle.view.specs.Runs.{Alterable, isGranted, tableRun, alterRun}
 use Rattle.view.proofs.Formed.{BatchControlFields, FileControlFields, file-control-fields}
 use Rattle.view.proofs.AmendFile.{fieldAt, Outside}
 use Rattle.view.proofs.Bridge.{FileOf, accepted-exactly, only-view}
-use Rattle.view.proofs.Own.{Told, own-entries, own-controls, own-table}
+use Rattle.view.proofs.Own.{Told, own-entries, own-controls, own-records, own-table}
 use Rattle.view.proofs.RoundTrips.{read-done, write-done, read-write, write-read}
-use Rattle.view.proofs.Alter.{alter-exactly, alter-refused, alter-leaves, alter-accepted, alter-table, alter-length, alter-bytes, alter-difference, run-table, run-file, run-refused}
+use Rattle.view.proofs.Alter.{alter-exactly, alter-refused, alter-leaves, alter-accepted, alter-table, alter-length, alter-bytes, alter-difference, may-put, alter-step, run-table, run-file, run-refused}
 use Rattle.altering.proofs.Addenda.{granted-there, part-refused, handed}
 use Rattle.ach.specs.Contracts.{way, Checks, Reads, Writes, Alters, HandsOut, Explains, Spans, Run}
 use Rattle.ach.proofs.Bounds.{number-range}
@@ -138,7 +138,11 @@ module _ (f : List ℕ) (c : Checked) (p : Checks f c) where
   pub one-view : (v : View) → FileOf f v → v ≡ viewOf way f
   one-view = only-view f
 
-  -- the numbers given, and every field of the controls, are counts and sums over its own entries
+  -- its records are those of that view, one for one and in order, the controls among them
+  pub own-records-in-order : c .answer ≡ Answer.Granted → rows way (length f / way) f ≡ recordsOf (viewOf way f)
+  own-records-in-order g = own-records f (rw (← p) g)
+
+  -- and the numbers given, and every field of the controls, are counts and sums over its own entries
   pub own-numbers : c .answer ≡ Answer.Granted → Told c (viewOf way f) × All BatchControlFields (viewOf way f .batches) × FileControlFields (viewOf way f)
   own-numbers g =
       let e : checkedOf way f .answer ≡ Answer.Granted = rw (← p) g in
@@ -156,7 +160,7 @@ module _ (f held left : List ℕ) (c : Checked) (r : Made) (q : Checks f c) (p :
       let o = read-done f held (h .0) (h .1) in
       (ap (λ (m : Made). m .length) (p .0 ∙ ap (λ x. x .gives) o), p .1 ∙ ap (λ x. x .leaves) o)
 
--- a table is written exactly if the file formed from it would be accepted and there is room.
+-- a table is written exactly if the file formed from it would be accepted and there is room. (Bytes of another shape are no table.)
 module _ (t held left : List ℕ) (c : Checked) (r : Made) (q : Checks (formed t) c) (p : Writes t held r left) where
   pub exactly-written : (r .answer ≡ Answer.Granted) ↔ ((shaped t ≡ true) × (c .answer ≡ Answer.Granted) × (length (formed t) ≤ length held))
   exactly-written = rw (p .0, q) (write-exactly t held)
@@ -234,6 +238,13 @@ pub permitted : (calls : List (ℕ × ℕ)) (f g : List ℕ) → Run calls f g �
 unfolding alterRun
 permitted [] f g p = p
 permitted (call ∷ calls) f g p = permitted calls (p .1) g (p .3) ∙ ap (alterRun way calls) (p .2 .1)
+
+-- one call puts its amount into the table exactly if it is granted
+pub granted-put : (f left : List ℕ) (k a : ℕ) (c : Checked) (r : Altered) → Checks f c → c .answer ≡ Answer.Granted → Alters f k a r left
+    → tableOf way left ≡ pick (isGranted (r .answer)) (alteredTable (tableOf way f) k a) (tableOf way f)
+granted-put f left k a c r q g p =
+    let e : checkedOf way f .answer ≡ Answer.Granted = rw (← q) g in
+    rw (p .0, p .1) (alter-step f k a e .1 ∙ ap (λ b. pick b (alteredTable (tableOf way f) k a) (tableOf way f)) (sym (may-put f k a e)))
 
 pub run-ends-in : (calls : List (ℕ × ℕ)) (f g : List ℕ) (c : Checked) → Checks f c → c .answer ≡ Answer.Granted → Run calls f g
     → g ≡ formed (tableRun way calls (tableOf way f))
