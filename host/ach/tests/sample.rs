@@ -20,7 +20,6 @@ fn a_refusal_has_number_record_and_field() {
     assert_eq!(ach::check(b"").unwrap_err().number, 1);
 }
 
-#[cfg(feature = "read_write")]
 #[test]
 fn the_sample_and_its_table() {
     let table = include_bytes!("../../../samples/whole.table");
@@ -31,7 +30,6 @@ fn the_sample_and_its_table() {
     assert_eq!(&room[..940], FILE);
 }
 
-#[cfg(feature = "alter")]
 #[test]
 fn an_amount_and_an_addendum() {
     let mut file = FILE.to_vec();

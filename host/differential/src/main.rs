@@ -3,10 +3,8 @@
 //!
 //! ACH_SEED chooses other random cases, ACH_CASES how many of them there are.
 
-#[cfg(feature = "alter")]
 mod alter;
 mod check;
-#[cfg(feature = "read_write")]
 mod read_write;
 mod tally;
 
@@ -30,13 +28,10 @@ fn main() -> ExitCode {
     };
     let compare: fn(&Run, &mut Tally) = match subcommand.as_str() {
         "check" => check::compare,
-        #[cfg(feature = "read_write")]
         "readwrite" => read_write::compare,
-        #[cfg(feature = "alter")]
         "alter" => alter::compare,
         _ => {
             eprintln!("usage: differential check | readwrite | alter");
-            eprintln!("the last two are there with the features read_write and alter");
             return ExitCode::from(2);
         }
     };
