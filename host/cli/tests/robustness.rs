@@ -57,7 +57,7 @@ fn as_nobody(arguments: &[&OsStr]) -> Option<Run> {
 fn no_permission() {
     let folder = Folder::new();
     let file = folder.with("secret.ach", WHOLE);
-    fs::set_permissions(&file, Permissions::from_mode(0)).unwrap();
+    fs::set_permissions(&file, Permissions::from_mode(0o000)).unwrap();
     if let Some(run) = as_nobody(&["check".as_ref(), file.as_ref()]) {
         run.fails_with("secret.ach: Permission denied");
     }
