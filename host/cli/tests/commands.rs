@@ -277,3 +277,37 @@ fn help_and_version() {
     ach!("audit", "x").fails_with("there is no command audit");
     ach!("check", "x", "--fast").fails_with("there is no option --fast");
 }
+
+/// The story's pay run, from its table to the page: nobody who earns exactly 2,000.00 is missing.
+#[test]
+fn all_eleven_are_written_and_shown() {
+    let folder = Folder::new();
+    let samples: Vec<samples::Sample> = samples::all();
+    let table = samples.iter().find(|sample| sample.name == "eleven.table").unwrap();
+    let (table, file) = (folder.with("eleven.table", &table.bytes), folder.path("eleven.ach"));
+    ach!("write", table, "-o", file, "--line").is(0, "OK 2 30 0 0 6293159\n", "");
+    let page = ach!("show", file).out;
+    let paid = |amount: &str| page.lines().filter(|line| line.contains(amount)).count();
+    assert_eq!((paid(" 1999.99  "), paid(" 2000.00  "), paid(" 2000.01  ")), (1, 11, 1));
+}
+
+/// Every refused sample is refused by the command with its line, and with words for it.
+#[test]
+fn every_refused_sample() {
+    let folder = Folder::new();
+    let samples = samples::all();
+    for (name, line) in samples::index() {
+        let sample = samples.iter().find(|sample| sample.name == name).unwrap();
+        let file = folder.with("sample.ach", &sample.bytes);
+        let status = i32::from(line.starts_with("NO "));
+        ach!("check", file, "--line").is(status, &format!("{line}\n"), "");
+        let run = ach!("check", file);
+        assert_eq!(run.status, status, "{name}");
+        if status == 1 {
+            let number = line.split(' ').nth(1).unwrap();
+            assert!(run.err.contains(&format!("refused, {number}: ")), "{name}: {run:?}");
+            assert!(run.err.contains("\n  stands "), "{name}: {run:?}");
+            assert!(run.err.contains("\n  due    "), "{name}: {run:?}");
+        }
+    }
+}
