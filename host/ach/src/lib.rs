@@ -81,6 +81,23 @@ pub fn check(file: &[u8]) -> Result<Acceptance, Refusal> {
     Ok(Acceptance { batches, entries, addenda, debit, credit, by_code })
 }
 
+/// The line that the check program prints for an answer: `OK batches entries addenda debit credit`
+/// with the sums in cents, or `NO number record field`.
+///
+/// ```
+/// let file = include_bytes!("../../../samples/whole.ach");
+/// assert_eq!(ach::line(&ach::check(file)), "OK 1 2 1 0 12550");
+/// assert_eq!(ach::line(&ach::check(b"")), "NO 1 0 0");
+/// ```
+pub fn line(answer: &Result<Acceptance, Refusal>) -> String {
+    match answer {
+        Ok(Acceptance { batches, entries, addenda, debit, credit, .. }) => {
+            format!("OK {batches} {entries} {addenda} {debit} {credit}")
+        }
+        Err(Refusal { number, record, field }) => format!("NO {number} {record} {field}"),
+    }
+}
+
 /// Writes the pay table of a file to the front of the room, and tells its length.
 ///
 /// ```

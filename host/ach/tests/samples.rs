@@ -1,17 +1,6 @@
 //! The proved library on every sample: the line that the index has, and the tables both ways.
 
-use ach::Refusal;
 use std::collections::BTreeMap;
-
-fn line(file: &[u8]) -> String {
-    match ach::check(file) {
-        Ok(held) => format!(
-            "OK {} {} {} {} {}",
-            held.batches, held.entries, held.addenda, held.debit, held.credit
-        ),
-        Err(Refusal { number, record, field }) => format!("NO {number} {record} {field}"),
-    }
-}
 
 /// The files as they lie in the folder, which another test holds equal to these.
 fn files() -> BTreeMap<String, Vec<u8>> {
@@ -22,7 +11,7 @@ fn files() -> BTreeMap<String, Vec<u8>> {
 fn every_sample_has_its_line() {
     let files = files();
     for (name, expected) in samples::index() {
-        assert_eq!(line(&files[name]), expected, "{name}");
+        assert_eq!(ach::line(&ach::check(&files[name])), expected, "{name}");
     }
 }
 

@@ -66,8 +66,7 @@ fn refused(refusal: Refusal, line: bool, words: impl FnOnce() -> String) -> Trou
     if !line {
         return Trouble::Refused(words());
     }
-    let Refusal { number, record, field } = refusal;
-    match say(&format!("NO {number} {record} {field}\n")) {
+    match say_line(Err(refusal)) {
         Ok(()) => Trouble::Refused(String::new()),
         Err(trouble) => trouble,
     }
@@ -90,9 +89,9 @@ fn say_beside(target: &Target, text: &str) -> Result<(), Trouble> {
     }
 }
 
-fn line_of(held: &Acceptance) -> String {
-    let Acceptance { batches, entries, addenda, debit, credit, .. } = held;
-    format!("OK {batches} {entries} {addenda} {debit} {credit}\n")
+/// The check program's line.
+fn say_line(answer: Result<Acceptance, Refusal>) -> Result<(), Trouble> {
+    say(&format!("{}\n", ach::line(&answer)))
 }
 
 fn held_words(held: &Acceptance) -> String {
@@ -116,7 +115,7 @@ fn check(file: &Source, line: bool) -> Result<(), Trouble> {
     let loaded = load_file(file, line)?;
     let held = check_bytes(&loaded, line)?;
     if line {
-        return say(&line_of(&held));
+        return say_line(Ok(held));
     }
     say(&format!("{}: accepted; {}\n", loaded.name, held_words(&held)))
 }
@@ -164,7 +163,7 @@ fn report(target: &Target, file: &[u8], length: usize, line: bool) -> Result<(),
         return failed("the library refuses what it has just granted");
     };
     if line {
-        return say_beside(target, &line_of(&held));
+        return say_line(Ok(held));
     }
     let words = format!("{}: {length} bytes written; {}\n", target.name(), held_words(&held));
     say_beside(target, &words)

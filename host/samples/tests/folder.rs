@@ -1,6 +1,5 @@
 //! The folder holds what it should, and the independent implementation says what the index says.
 
-use independent::Refusal;
 use std::collections::BTreeSet;
 use std::fs;
 use std::path::Path;
@@ -43,13 +42,7 @@ fn every_file_is_known() {
 #[test]
 fn every_file_has_its_line() {
     for (name, line) in samples::index() {
-        let said = match independent::check(&content(name)) {
-            Ok(held) => format!(
-                "OK {} {} {} {} {}",
-                held.batches, held.entries, held.addenda, held.debit, held.credit
-            ),
-            Err(Refusal { number, record, field }) => format!("NO {number} {record} {field}"),
-        };
+        let said = independent::line(&independent::check(&content(name)));
         assert_eq!(said, line, "{name}");
         assert_eq!(line.starts_with("NO "), name.starts_with("refused/"), "{name}");
     }
