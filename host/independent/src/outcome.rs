@@ -61,6 +61,6 @@ pub fn line(outcome: &Result<Acceptance, Refusal>) -> String {
         Ok(held) => ("OK", vec![held.batches, held.entries, held.addenda, held.debit, held.credit]),
         Err(no) => ("NO", vec![no.number.into(), no.record, no.field.into()]),
     };
-    let spelled = numbers.iter().map(|number| format!(" {number}"));
-    word.chars().map(String::from).chain(spelled).collect()
+    let spelled: String = numbers.iter().map(|number| format!(" {number}")).collect();
+    format!("{word}{spelled}")
 }
