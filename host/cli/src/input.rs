@@ -1,7 +1,7 @@
 //! Reading a file whole, but never more of it than it may have.
 
 use crate::options::Source;
-use crate::trouble::{failed, with_path, Trouble};
+use crate::trouble::{failed, shown, with_path, Trouble};
 use std::fs::{File, Metadata};
 use std::io::{self, Read};
 use std::os::unix::fs::MetadataExt;
@@ -55,7 +55,7 @@ fn read_file(path: &Path, most: usize) -> Result<Input, Trouble> {
     let file = File::open(path).map_err(with_path(path))?;
     let metadata = file.metadata().map_err(with_path(path))?;
     if metadata.is_dir() {
-        return failed(format!("{}: this is a folder, not a file", path.display()));
+        return failed(format!("{}: this is a folder, not a file", shown(path)));
     }
     if !metadata.is_file() {
         let content = up_to(&file, most).map_err(with_path(path))?;
@@ -82,7 +82,7 @@ fn read_unchanged(
         Content::TooLong => most as u64 + 1,
     };
     if before != stamp()? || length != before.length {
-        return failed(format!("{}: the file changed while it was read", path.display()));
+        return failed(format!("{}: the file changed while it was read", shown(path)));
     }
     Ok(Input { content, stamp: Some(before) })
 }

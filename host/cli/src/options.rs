@@ -1,7 +1,7 @@
 //! The command line: which command, on what, with which options.
 
 use crate::money;
-use crate::trouble::{misused, Trouble};
+use crate::trouble::{misused, shown, Trouble};
 use std::ffi::OsString;
 use std::path::{Path, PathBuf};
 
@@ -47,7 +47,7 @@ impl Source {
     pub fn name(&self) -> String {
         match self {
             Source::StandardInput => "standard input".into(),
-            Source::File(path) => path.display().to_string(),
+            Source::File(path) => shown(path),
         }
     }
 }
@@ -64,7 +64,7 @@ impl Target {
     pub fn name(&self) -> String {
         match self {
             Target::StandardOutput => "standard output".into(),
-            Target::New(path) | Target::Replaced(path) => path.display().to_string(),
+            Target::New(path) | Target::Replaced(path) => shown(path),
         }
     }
 }
@@ -141,7 +141,7 @@ impl Given {
     fn set_flag(&mut self, spelled: &str) -> Result<(), Trouble> {
         match FLAGS.iter().find(|flag| **flag == spelled) {
             Some(flag) => self.flags.push(flag),
-            None => return misused(format!("there is no option {spelled}")),
+            None => return misused(format!("there is no option {}", shown(Path::new(spelled)))),
         }
         Ok(())
     }
@@ -158,8 +158,8 @@ impl Given {
             return misused("which command?");
         }
         let name = self.words.remove(0);
-        let name = name.to_string_lossy();
-        let command = match name.as_ref() {
+        let name = shown(Path::new(&name));
+        let command = match name.as_str() {
             "check" => {
                 let [file] = self.take("FILE")?;
                 Command::Check { file: source(&file), line: self.flag("--line") }
@@ -212,7 +212,9 @@ impl Given {
     fn take<const N: usize>(&mut self, names: &str) -> Result<[OsString; N], Trouble> {
         let words = std::mem::take(&mut self.words);
         let count = words.len();
-        words.try_into().or_else(|_| misused(format!("this command takes {names}, not {count}")))
+        words.try_into().or_else(|_| {
+            misused(format!("{names} is wanted behind the command, not {count} words"))
+        })
     }
 
     fn target(&mut self) -> Result<Target, Trouble> {
@@ -247,7 +249,7 @@ fn source(word: &OsString) -> Source {
 }
 
 fn entry_number(word: &OsString) -> Result<Entry, Trouble> {
-    let text = word.to_string_lossy().into_owned();
+    let text = shown(Path::new(word));
     match money::number(&text) {
         Some(number) => Ok(Written { number, text }),
         None => misused(format!("an entry's number is digits, not {text}")),
@@ -255,7 +257,7 @@ fn entry_number(word: &OsString) -> Result<Entry, Trouble> {
 }
 
 fn amount_in_cents(word: &OsString) -> Result<Amount, Trouble> {
-    let text = word.to_string_lossy().into_owned();
+    let text = shown(Path::new(word));
     match money::cents(&text) {
         Some(number) => Ok(Written { number, text }),
         None => misused(format!("an amount is written 1234.56 or 1234, not {text}")),
@@ -263,7 +265,7 @@ fn amount_in_cents(word: &OsString) -> Result<Amount, Trouble> {
 }
 
 fn refusal_number(word: &OsString) -> Result<u8, Trouble> {
-    let text = word.to_string_lossy();
+    let text = shown(Path::new(word));
     let number = money::number(&text).and_then(|number| u8::try_from(number).ok());
     match number.filter(|number| ach::reason(*number).is_some()) {
         Some(number) => Ok(number),

@@ -2,11 +2,10 @@
 
 use crate::input::Stamp;
 use crate::options::Target;
-use crate::trouble::{failed, standard_output, with_path, Trouble};
-use std::ffi::OsString;
-use std::fs::{self, File, Metadata, OpenOptions};
+use crate::trouble::{failed, plain, shown, standard_output, with_path, Trouble};
+use std::fs::{self, File, Metadata, OpenOptions, Permissions};
 use std::io::{self, ErrorKind, Write};
-use std::os::unix::fs::{fchown, MetadataExt};
+use std::os::unix::fs::{fchown, MetadataExt, PermissionsExt};
 use std::path::{Path, PathBuf};
 
 /// Brings the bytes to where they are wanted.
@@ -30,7 +29,7 @@ pub fn look_at(target: &Target) -> Result<(), Trouble> {
 }
 
 fn taken(path: &Path) -> Result<(), Trouble> {
-    failed(format!("{}: there is such a file already; --force replaces it", path.display()))
+    failed(format!("{}: there is such a file already; --force replaces it", shown(path)))
 }
 
 /// A link, unlike a renaming, never replaces a file, not even one that has just appeared.
@@ -39,7 +38,11 @@ fn put_new(path: &Path, bytes: &[u8]) -> Result<(), Trouble> {
     match fs::hard_link(&temporary.path, path) {
         Ok(()) => {}
         Err(error) if error.kind() == ErrorKind::AlreadyExists => return taken(path),
-        Err(error) => return Err(with_path(path)(error)),
+        Err(error) => {
+            let error = plain(&error);
+            let words = "where there are no links, --force puts a file there by renaming";
+            return failed(format!("{}: {error}; {words}", shown(path)));
+        }
     }
     drop(temporary);
     sync_folder(path);
@@ -59,7 +62,7 @@ fn put_over(path: &Path, bytes: &[u8]) -> Result<(), Trouble> {
 /// Replaces the file that was read before, unless it is no longer the one that was read.
 pub fn put_in_place(path: &Path, bytes: &[u8], read: Option<Stamp>) -> Result<(), Trouble> {
     let Some(stamp) = read else {
-        return failed(format!("{}: only a regular file is altered in place", path.display()));
+        return failed(format!("{}: only a regular file is altered in place", shown(path)));
     };
     let real = fs::canonicalize(path).map_err(with_path(path))?;
     let old = fs::metadata(&real).map_err(with_path(path))?;
@@ -73,13 +76,13 @@ fn replace(
     expected: Option<Stamp>,
 ) -> Result<(), Trouble> {
     if old.is_some_and(|old| !old.is_file()) {
-        return failed(format!("{}: only a regular file is replaced", path.display()));
+        return failed(format!("{}: only a regular file is replaced", shown(path)));
     }
     let temporary = Temporary::filled(path, old, bytes)?;
     if let Some(stamp) = expected {
         let now = fs::metadata(path).map_err(with_path(path))?;
         if Stamp::of(&now) != stamp {
-            return failed(format!("{}: the file changed since it was read", path.display()));
+            return failed(format!("{}: the file changed since it was read", shown(path)));
         }
     }
     temporary.rename_to(path)?;
@@ -104,21 +107,15 @@ impl Temporary {
     }
 
     fn create(beside: &Path) -> Result<(Self, File), Trouble> {
-        let Some(name) = beside.file_name() else {
-            return failed(format!("{}: this is not the name of a file", beside.display()));
-        };
         for attempt in 0..MOST_TRIES {
-            let mut hidden = OsString::from(".");
-            hidden.push(name);
-            hidden.push(format!(".ach-{}-{attempt}", std::process::id()));
-            let path = beside.with_file_name(hidden);
+            let path = beside.with_file_name(format!(".ach-{}-{attempt}", std::process::id()));
             match OpenOptions::new().write(true).create_new(true).open(&path) {
                 Ok(file) => return Ok((Temporary { path, renamed: false }, file)),
                 Err(error) if error.kind() == ErrorKind::AlreadyExists => {}
                 Err(error) => return Err(with_path(beside)(error)),
             }
         }
-        failed(format!("{}: no temporary file can be made beside it", beside.display()))
+        failed(format!("{}: no temporary file can be made beside it", shown(beside)))
     }
 
     fn rename_to(mut self, path: &Path) -> Result<(), Trouble> {
@@ -130,12 +127,19 @@ impl Temporary {
 
 fn fill(mut file: File, like: Option<&Metadata>, bytes: &[u8]) -> io::Result<()> {
     if let Some(old) = like {
-        // Only a privileged user may give files away; for others the owner changes.
-        let _ = fchown(&file, Some(old.uid()), Some(old.gid()));
-        file.set_permissions(old.permissions())?;
+        file.set_permissions(permissions_like(&file, old))?;
     }
     file.write_all(bytes)?;
     file.sync_all()
+}
+
+/// Owner, group and permissions of the old file, as far as the user may give them: where the group
+/// is another one, it gets no rights.
+fn permissions_like(file: &File, old: &Metadata) -> Permissions {
+    let kept = fchown(file, Some(old.uid()), Some(old.gid()))
+        .or_else(|_| fchown(file, None, Some(old.gid())));
+    let group = if kept.is_ok() { 0o7777 } else { 0o7707 };
+    Permissions::from_mode(old.mode() & group)
 }
 
 impl Drop for Temporary {

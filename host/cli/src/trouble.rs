@@ -22,7 +22,13 @@ pub fn failed<T>(words: impl Into<String>) -> Result<T, Trouble> {
 
 /// For `map_err`: what the system says of a file.
 pub fn with_path(path: &Path) -> impl Fn(io::Error) -> Trouble + '_ {
-    move |error| Trouble::Failed(format!("{}: {}", path.display(), plain(&error)))
+    move |error| Trouble::Failed(format!("{}: {}", shown(path), plain(&error)))
+}
+
+/// A name that goes to a terminal: what is no text, or would move the cursor, is replaced.
+pub fn shown(path: &Path) -> String {
+    let text = path.to_string_lossy();
+    text.chars().map(|sign| if sign.is_control() { '\u{FFFD}' } else { sign }).collect()
 }
 
 /// For `map_err`: what the system says of standard output.
@@ -31,7 +37,7 @@ pub fn standard_output(error: io::Error) -> Trouble {
 }
 
 /// The system's words without Rust's number behind them.
-fn plain(error: &io::Error) -> String {
+pub fn plain(error: &io::Error) -> String {
     let words = error.to_string();
     words.split(" (os error").next().unwrap_or_default().to_string()
 }

@@ -64,7 +64,8 @@ pub fn of_table(name: &str, table: &[u8], refusal: Refusal) -> String {
             let records = formed::records(table, refusal.record as usize);
             let mut explanation = in_records(&records, refusal);
             explanation.place = format!("{} of the file to be written", explanation.place);
-            if matches!(records.get(records.len() - RECORD), Some(b'8' | b'9')) {
+            let last = records.rchunks_exact(RECORD).next();
+            if last.is_some_and(|record| matches!(record[0], b'8' | b'9')) {
                 // The control's own text is not known here, only its type.
                 explanation.stands = String::new();
                 if refusal.number == 20 {
@@ -305,7 +306,7 @@ const ADVICE: [&str; 25] = [
     "Days are written YYMMDD, times HHMM from 0000 to 2359.",
     "Only certain values are known here, such as 220 for a batch of credits, or code 22.",
     "The ninth digit of a bank's number is made from the eight before it. Compare the number with\n\
-     a cheque or with the bank.",
+     a voided check or ask the bank.",
     "The numbers of banks that receive payments begin with 0, 1, 2 or 3.",
     "Codes 23, 28, 33 and 38 are prenotes and carry 0; the others carry 0.01 to 99999999.99.",
     "Under class 220 stand credits (22, 23, 32, 33), under 225 debits (27, 28, 37, 38), under 200\n\

@@ -161,6 +161,45 @@ fn a_name_that_is_no_text() {
 }
 
 #[test]
+fn the_longest_name_there_is() {
+    let folder = Folder::new();
+    let (file, table) = (folder.with("good.ach", WHOLE), folder.path("t".repeat(255)));
+    assert_eq!(ach!("read", file, "-o", table).status, 0);
+    assert_eq!(fs::read(&table).unwrap(), WHOLE_TABLE);
+    ach!("read", file, "-o", folder.path("t".repeat(256))).fails_with("File name too long");
+    assert_eq!(folder.names().len(), 2);
+}
+
+#[test]
+fn a_name_that_would_move_the_cursor() {
+    let folder = Folder::new();
+    let file = folder.with("\x1b[2J\n.ach", WHOLE);
+    let run = ach!("check", file);
+    assert_eq!(run.status, 0, "{run:?}");
+    assert!(run.out.contains("/\u{FFFD}[2J\u{FFFD}.ach: accepted"), "{run:?}");
+    ach!("check", "\x1b[2J").fails_with("ach: \u{FFFD}[2J: No such file");
+    ach!("\x1b[2J").fails_with("there is no command \u{FFFD}[2J");
+    ach!("check", "--\x1b").fails_with("there is no option --\u{FFFD}");
+}
+
+/// Who may not give the file to its group must not let another group read it.
+#[test]
+fn rights_are_not_given_to_another_group() {
+    let folder = Folder::new();
+    let file = folder.with("good.ach", WHOLE);
+    fs::set_permissions(&file, Permissions::from_mode(0o664)).unwrap();
+    fs::set_permissions(folder.path(""), Permissions::from_mode(0o777)).unwrap();
+    let alter = ["alter", "--in-place", "FILE", "1", "2.00"].map(OsStr::new);
+    let alter = alter.map(|word| if word == "FILE" { file.as_os_str() } else { word });
+    if let Some(run) = as_nobody(&alter) {
+        assert_eq!(run.status, 0, "{run:?}");
+        let same_group = fs::metadata(&file).unwrap().gid() == 0;
+        let not_root = fs::metadata("/proc/self").unwrap().uid() != 0;
+        assert_eq!(mode(&file), if same_group || not_root { 0o664 } else { 0o604 });
+    }
+}
+
+#[test]
 fn a_name_like_an_option() {
     let folder = Folder::new();
     folder.with("--line", WHOLE);
