@@ -1,7 +1,11 @@
 //! The C boundary as it is, for the safe functions of this crate and for tests of the boundary.
 //!
 //! Every function answers 0 if it grants, else number + 256 * field + 65536 * record. A refusal
-//! leaves all lent memory untouched. Lent parts must not overlap.
+//! leaves all lent memory untouched.
+//!
+//! # Safety
+//! A pointer is to as many bytes as the length behind it says, or to as many numbers as the
+//! function writes; a null pointer will do for no bytes. What is lent to one call is apart.
 
 extern "C" {
     /// Checks the `n` bytes at `file`. Granted, it fills 21 numbers: batches, entries, addenda,

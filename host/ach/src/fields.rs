@@ -13,45 +13,67 @@
 pub const RECORD: usize = 94;
 
 /// A rule that looks at its own field alone.
-#[allow(missing_docs)]
 #[derive(Clone, Copy, Debug, PartialEq, Eq)]
 pub enum Own {
+    /// A blank and a bank's nine digits with their check digit.
     Destination,
+    /// A blank or a digit, and nine digits.
     Origin,
+    /// Hour and minute, or four blanks.
     Time,
+    /// A capital letter or a digit.
     Modifier,
+    /// 200, 220 or 225.
     Class,
+    /// PPD or CCD.
     EntryClass,
+    /// Eight digits, the first of them 0 to 3.
     Bank,
+    /// Digits and hyphens, then blanks.
     Account,
+    /// Whether an addendum follows.
     Flag,
 }
 
 /// A rule that looks at another field or at an earlier record.
-#[allow(missing_docs)]
 #[derive(Clone, Copy, Debug, PartialEq, Eq)]
 pub enum Near {
+    /// A known code that the batch's class allows.
     Code,
+    /// The check digit of the bank before it.
     CheckDigit,
+    /// Cents that the code carries.
     Amount,
+    /// The batch's bank, and one more than the entry before.
     Trace,
+    /// The end of the entry's trace number.
     EntryTrace,
+    /// More than the batch before has.
     BatchNumber,
 }
 
 /// A sum that a control record repeats.
-#[allow(missing_docs)]
 #[derive(Clone, Copy, Debug, PartialEq, Eq)]
 pub enum Sum {
+    /// Entries and addenda of the batch.
     BatchRecords,
+    /// The bank numbers of the batch.
     BatchHash,
+    /// The debits of the batch.
     BatchDebit,
+    /// The credits of the batch.
     BatchCredit,
+    /// The batches of the file.
     Batches,
+    /// Records by ten, rounded up.
     Blocks,
+    /// Entries and addenda of the file.
     FileRecords,
+    /// The bank numbers of the file.
     FileHash,
+    /// The debits of the file.
     FileDebit,
+    /// The credits of the file.
     FileCredit,
 }
 

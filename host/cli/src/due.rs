@@ -67,7 +67,7 @@ impl<'f> Place<'f> {
             Own::Destination if self.number == 12 => {
                 let bank = &self.field.of(self.record)[1..9];
                 let due = [b" ", bank, &[check_digit(bank)]].concat();
-                text(due, "by the check digit in the last column")
+                text(due, "if all digits but the last are right")
             }
             Own::Destination => words("a blank, and then a bank's nine digits"),
             Own::Origin => words("a blank or a digit, and then nine digits"),
@@ -90,7 +90,7 @@ impl<'f> Place<'f> {
             },
             Near::CheckDigit => {
                 let bank = part(b'6', 3, self.record);
-                text([check_digit(bank)], "the check digit of the eight digits before it")
+                text([check_digit(bank)], "if the eight digits before it are right")
             }
             Near::Amount => amount_of(part(b'6', 2, self.record)),
             Near::Trace => self.trace(),

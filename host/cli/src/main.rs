@@ -3,6 +3,8 @@
 //! All that is decided about a file is decided by the proved library. What is here moves bytes
 //! between files and the library's functions, and puts its answers into words.
 
+#![forbid(unsafe_code)]
+
 mod commands;
 mod due;
 mod formed;

@@ -75,7 +75,7 @@ fn write() {
         "{}: refused, 12: the check digit is wrong
   where  record 4, type 6 entry 2, field 4 Check digit, column 12 of the file to be written
   stands \"7\"
-  due    \"1\", the check digit of the eight digits before it
+  due    \"1\", if the eight digits before it are right
 ",
         bad.display()
     );
