@@ -31,7 +31,6 @@ fn a_folder_is_no_file() {
     ach!("read", file, "-o", folder.path("taken"), "--force").fails_with("only a regular file");
     ach!("read", file, "-o", folder.path("no/table")).fails_with("No such file or directory");
     ach!("read", file, "-o", folder.path("good.ach/table")).fails_with("Not a directory");
-    ach!("read", file, "-o", "/", "--force").fails_with("only a regular file");
     ach!("check", "").fails_with("No such file or directory");
     assert_eq!(folder.names(), ["good.ach", "taken"]);
 }
@@ -317,16 +316,19 @@ fn an_output_that_appears_meanwhile_is_kept() {
 }
 
 #[test]
-fn links_and_devices_are_not_replaced() {
+fn links_and_pipes_are_not_replaced() {
     let folder = Folder::new();
     let file = folder.with("good.ach", WHOLE);
     let (link, dangling) = (folder.path("link"), folder.path("dangling"));
     symlink("good.ach", &link).unwrap();
     symlink("nothing", &dangling).unwrap();
     ach!("read", file, "-o", dangling).fails_with("there is such a file already");
-    ach!("read", file, "-o", "/dev/null").fails_with("there is such a file already");
-    ach!("read", file, "-o", "/dev/null", "--force").fails_with("only a regular file is replaced");
-    assert!(fs::metadata("/dev/null").unwrap().file_type().is_char_device());
+    // A pipe of our own: were a device of the system replaced, every process would suffer.
+    let pipe = folder.path("pipe");
+    assert!(Command::new("mkfifo").arg(&pipe).status().unwrap().success());
+    ach!("read", file, "-o", pipe).fails_with("there is such a file already");
+    ach!("read", file, "-o", pipe, "--force").fails_with("only a regular file is replaced");
+    assert!(fs::metadata(&pipe).unwrap().file_type().is_fifo());
 
     assert_eq!(ach!("alter", link, "1", "2.00", "--in-place").status, 0);
     assert!(fs::symlink_metadata(&link).unwrap().is_symlink());
@@ -334,7 +336,7 @@ fn links_and_devices_are_not_replaced() {
     assert_eq!(ach!("alter", file, "1", "3.00", "-o", link, "--force").status, 0);
     assert!(fs::symlink_metadata(&link).unwrap().is_symlink());
     ach!("check", "--line", file).is(0, "OK 1 2 1 0 2850\n", "");
-    assert_eq!(folder.names(), ["dangling", "good.ach", "link"]);
+    assert_eq!(folder.names(), ["dangling", "good.ach", "link", "pipe"]);
 }
 
 #[test]
