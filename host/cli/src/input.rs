@@ -152,6 +152,17 @@ mod tests {
     }
 
     #[test]
+    fn a_file_that_is_rewritten_in_its_length_is_a_failure() {
+        let path = file_of_940_bytes("rewritten");
+        // Clocks of files are coarse: the old time lies well before the new one.
+        let long_ago = std::time::UNIX_EPOCH + std::time::Duration::from_secs(1_000_000_000);
+        File::options().write(true).open(&path).unwrap().set_modified(long_ago).unwrap();
+        let rewrite = || File::options().write(true).open(&path).unwrap().write_all(b"1").unwrap();
+        let words = read_while(&path, rewrite).unwrap_err();
+        assert!(words.ends_with("the file changed while it was read"), "{words}");
+    }
+
+    #[test]
     fn no_more_is_read_than_needed() {
         let mut endless = io::repeat(b'9').take(5_000);
         assert!(matches!(up_to(&mut endless, 940).unwrap(), Content::TooLong));
