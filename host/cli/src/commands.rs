@@ -1,5 +1,6 @@
 //! What each command does: bytes in, a question to the library, its answer out.
 
+use crate::explain;
 use crate::input::{self, Content, Stamp};
 use crate::money::{signed, spelled};
 use crate::options::{Amount, Command, Entry, Source, Target, HELP};
@@ -24,7 +25,7 @@ pub fn run(command: Command) -> Result<(), Trouble> {
             alter(&file, &entry, &amount, target, line)
         }
         Command::Addendum { file, entry } => addendum(&file, &entry),
-        Command::Explain { number } => say(&words::of_number(number)),
+        Command::Explain { number } => say(&explain::of_number(number)),
     }
 }
 

@@ -7,6 +7,7 @@
 
 mod commands;
 mod due;
+mod explain;
 mod formed;
 mod input;
 mod money;
