@@ -11,7 +11,6 @@ use crate::trouble::{failed, standard_output, Trouble};
 use crate::words;
 use ach::{Acceptance, Refusal};
 use std::io::{self, BufWriter, Write};
-use std::path::PathBuf;
 
 pub fn run(command: Command) -> Result<(), Trouble> {
     match command {
@@ -22,7 +21,7 @@ pub fn run(command: Command) -> Result<(), Trouble> {
         Command::Read { file, target, line } => read(&file, &target, line),
         Command::Write { table, target, line } => write(&table, &target, line),
         Command::Alter { file, entry, amount, target, line } => {
-            alter(&file, &entry, &amount, target, line)
+            alter(&file, &entry, &amount, &target, line)
         }
         Command::Addendum { file, entry } => addendum(&file, &entry),
         Command::Explain { number } => say(&explain::of_number(number)),
@@ -86,7 +85,7 @@ fn say_beside(target: &Target, text: &str) -> Result<(), Trouble> {
             let _ = io::stderr().lock().write_all(text.as_bytes());
             Ok(())
         }
-        Target::New(_) | Target::Replaced(_) => say(text),
+        _ => say(text),
     }
 }
 
@@ -140,7 +139,7 @@ fn read(file: &Source, target: &Target, line: bool) -> Result<(), Trouble> {
     let Loaded { name, bytes, .. } = &loaded;
     let table = watched("reading", name, || ach::table_of(bytes))
         .map_err(|refusal| refused(refusal, line, || words::of_file(name, bytes, refusal)))?;
-    put(target, &table)?;
+    put(target, &table, None)?;
     report(target, bytes, table.len(), line)
 }
 
@@ -150,12 +149,12 @@ fn write(table: &Source, target: &Target, line: bool) -> Result<(), Trouble> {
     let Loaded { name, bytes, .. } = &loaded;
     let file = watched("writing from", name, || ach::file_of(bytes))
         .map_err(|refusal| refused(refusal, line, || words::of_table(name, bytes, refusal)))?;
-    put(target, &file)?;
+    put(target, &file, None)?;
     report(target, &file, file.len(), line)
 }
 
-fn put(target: &Target, bytes: &[u8]) -> Result<(), Trouble> {
-    watched("writing", &target.name(), || output::put(target, bytes))
+fn put(target: &Target, bytes: &[u8], read: Option<Stamp>) -> Result<(), Trouble> {
+    watched("writing", &target.name(), || output::put(target, bytes, read))
 }
 
 /// Says how much was written, and what the file holds that it stands for.
@@ -174,33 +173,19 @@ fn alter(
     file: &Source,
     entry: &Entry,
     amount: &Amount,
-    target: Option<Target>,
+    target: &Target,
     line: bool,
 ) -> Result<(), Trouble> {
-    target.as_ref().map_or(Ok(()), output::look_at)?;
+    output::look_at(target)?;
     let mut loaded = load_file(file, line)?;
     let (name, bytes) = (&loaded.name, &mut loaded.bytes);
-    let difference = watched("altering", name, || ach::alter(bytes, entry.number, amount.number))
-        .map_err(|refusal| {
-        let own = ach::check(bytes).is_ok();
-        refused(refusal, line, || match own {
-            true => words::of_alteration(name, bytes, refusal, entry, amount),
-            false => words::of_file(name, bytes, refusal),
-        })
+    let altered = watched("altering", name, || ach::alter(bytes, entry.number, amount.number));
+    let difference = altered.map_err(|refusal| {
+        refused(refusal, line, || words::of_alteration(name, bytes, refusal, entry, amount))
     })?;
-    let target = match (target, file) {
-        (Some(target), _) => {
-            put(&target, bytes)?;
-            target
-        }
-        (None, Source::File(path)) => {
-            watched("writing", name, || output::put_in_place(path, bytes, loaded.stamp))?;
-            Target::Replaced(PathBuf::from(path))
-        }
-        (None, Source::StandardInput) => return failed("standard input has no place"),
-    };
+    put(target, bytes, loaded.stamp)?;
     if line {
-        return report(&target, bytes, bytes.len(), line);
+        return report(target, bytes, bytes.len(), line);
     }
     let old = amount.number as i64 - difference;
     let words = format!(
@@ -211,7 +196,7 @@ fn alter(
         spelled(amount.number),
         signed(difference)
     );
-    say_beside(&target, &words)
+    say_beside(target, &words)
 }
 
 fn addendum(file: &Source, entry: &Entry) -> Result<(), Trouble> {

@@ -58,13 +58,15 @@ pub enum Target {
     StandardOutput,
     New(PathBuf),
     Replaced(PathBuf),
+    /// The file that is read, replaced if nobody wrote to it meanwhile.
+    InPlace(PathBuf),
 }
 
 impl Target {
     pub fn name(&self) -> String {
         match self {
             Target::StandardOutput => "standard output".into(),
-            Target::New(path) | Target::Replaced(path) => shown(path),
+            Target::New(path) | Target::Replaced(path) | Target::InPlace(path) => shown(path),
         }
     }
 }
@@ -77,7 +79,7 @@ pub enum Command {
     Show { file: Source },
     Read { file: Source, target: Target, line: bool },
     Write { table: Source, target: Target, line: bool },
-    Alter { file: Source, entry: Entry, amount: Amount, target: Option<Target>, line: bool },
+    Alter { file: Source, entry: Entry, amount: Amount, target: Target, line: bool },
     Addendum { file: Source, entry: Entry },
     Explain { number: u8 },
 }
@@ -198,12 +200,12 @@ impl Given {
         let (entry, amount) = (entry_number(&entry)?, amount_in_cents(&amount)?);
         let file = source(&file);
         let target = match (self.flag("--in-place"), &self.output, &file) {
-            (false, ..) => Some(self.target()?),
+            (false, ..) => self.target()?,
             (true, Some(_), _) => return misused("--in-place and -o exclude each other"),
             (true, None, Source::StandardInput) => {
                 return misused("standard input cannot be altered in place")
             }
-            (true, None, Source::File(_)) => None,
+            (true, None, Source::File(path)) => Target::InPlace(path.clone()),
         };
         Ok(Command::Alter { file, entry, amount, target, line: self.flag("--line") })
     }

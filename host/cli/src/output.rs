@@ -8,8 +8,8 @@ use std::io::{self, ErrorKind, Write};
 use std::os::unix::fs::{fchown, MetadataExt, PermissionsExt};
 use std::path::{Path, PathBuf};
 
-/// Brings the bytes to where they are wanted.
-pub fn put(target: &Target, bytes: &[u8]) -> Result<(), Trouble> {
+/// Brings the bytes to where they are wanted; the stamp is that of the file that was read.
+pub fn put(target: &Target, bytes: &[u8], read: Option<Stamp>) -> Result<(), Trouble> {
     match target {
         Target::StandardOutput => {
             let mut to = io::stdout().lock();
@@ -17,6 +17,7 @@ pub fn put(target: &Target, bytes: &[u8]) -> Result<(), Trouble> {
         }
         Target::New(path) => put_new(path, bytes),
         Target::Replaced(path) => put_over(path, bytes),
+        Target::InPlace(path) => put_in_place(path, bytes, read),
     }
 }
 
@@ -60,7 +61,7 @@ fn put_over(path: &Path, bytes: &[u8]) -> Result<(), Trouble> {
 }
 
 /// Replaces the file that was read before, unless it is no longer the one that was read.
-pub fn put_in_place(path: &Path, bytes: &[u8], read: Option<Stamp>) -> Result<(), Trouble> {
+fn put_in_place(path: &Path, bytes: &[u8], read: Option<Stamp>) -> Result<(), Trouble> {
     let Some(stamp) = read else {
         return failed(format!("{}: only a regular file is altered in place", shown(path)));
     };

@@ -78,7 +78,7 @@ pub fn of_table(name: &str, table: &[u8], refusal: Refusal) -> String {
     explanation.lines(name, refusal)
 }
 
-/// A refusal to alter a file that is itself in order.
+/// A refusal to alter: the file's own, or if it is in order that of the entry or the amount.
 pub fn of_alteration(
     name: &str,
     file: &[u8],
@@ -86,6 +86,9 @@ pub fn of_alteration(
     entry: &Written,
     amount: &Written,
 ) -> String {
+    if ach::check(file).is_err() {
+        return of_file(name, file, refusal);
+    }
     let explanation = match refusal.number {
         25 => no_entry(file, entry),
         14 => {
