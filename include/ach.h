@@ -1,6 +1,15 @@
 /*
  * Qalarimo ACH: payment files of PPD and CCD entries.
- * Link with libach_c.a.
+ * Link with libach_c.a; it needs nothing but memcpy.
+ *
+ * A file is records of 94 bytes, back to back, no line ends. A pay table holds
+ * the same payments without what follows from them (counts, hashes, totals,
+ * fillers): a section each for the file's header, the batches, the entries and
+ * the addenda, each after its count of six digits.
+ *
+ * Any bytes of any length may be lent, and every function does its own
+ * checking. No function keeps anything between calls or allocates memory, so
+ * that calls on different memory may run at the same time.
  */
 #ifndef ACH_H
 #define ACH_H
@@ -20,11 +29,32 @@ extern "C" {
  * where number (1 to 25) says why, and record and field, counted from 1, say
  * where; they are 0 where there is no place to name. A refusal leaves every
  * byte and every number that was lent as it was. What is lent to one call
- * must not overlap. Any bytes of any length may be lent.
+ * must not overlap.
  */
 #define ACH_NUMBER(answer) ((unsigned)((answer) & 0xFF))
 #define ACH_FIELD(answer)  ((unsigned)((answer) >> 8 & 0xFF))
 #define ACH_RECORD(answer) ((uint64_t)((answer) >> 16))
+
+/*
+ * The numbers of refusals:
+ *
+ *   1 length of the file             14 amount does not suit the code
+ *   2 data end where a record is due 15 code not allowed under the class
+ *   3 record type not allowed here   16 trace number
+ *   4 record behind the filled block 17 batch number does not rise
+ *   5 fixed text, or a filler        18 count
+ *   6 not digits                     19 entry hash
+ *   7 character not allowed          20 sum above 999,999,999,999 cents
+ *   8 all blank                      21 total
+ *   9 blank before other characters  22 control differs from batch header
+ *  10 no such day or time            23 room for the result too short
+ *  11 value not known                24 table of the wrong shape
+ *  12 check digit                    25 no such entry
+ *  13 bank begins with 4 to 9
+ *
+ * The first refusal in the file is given: by record, then by field, then by
+ * number.
+ */
 
 /* Where the numbers of an acceptance stand. */
 #define ACH_BATCHES  0
@@ -37,8 +67,8 @@ extern "C" {
 #define ACH_ACCEPTANCE_LENGTH 21
 
 /*
- * Checks the file of n bytes at `file`: records of 94 bytes, back to back, no
- * line ends. Stops at the first fault. Granted, it fills `acceptance`.
+ * Checks the file of n bytes at `file`. Stops at the first fault. Granted, it
+ * fills `acceptance`.
  *
  * `file` may be null if n is 0, which is refused (1). Otherwise it points to n
  * bytes, and `acceptance` to ACH_ACCEPTANCE_LENGTH numbers outside of them.
@@ -49,8 +79,9 @@ uint64_t ach_check(const uint8_t *file, size_t n,
 /*
  * Reads the pay table of an accepted file into the `room` bytes at `table`.
  * Granted, the table stands in front, `length` is how many bytes it has, and
- * the bytes behind it stay. Room of 109 + 95 * batches + 93 * entries +
- * 80 * addenda is enough; less is refused (23), after the file's refusals.
+ * the bytes behind it stay. The table has 109 + 95 * batches + 93 * entries +
+ * 80 * addenda bytes, always fewer than the file; less room is refused (23),
+ * after the file's refusals. `table` may be null if room is 0.
  */
 uint64_t ach_read(const uint8_t *file, size_t n, uint8_t *table, size_t room,
                   uint64_t *length);
@@ -58,8 +89,10 @@ uint64_t ach_read(const uint8_t *file, size_t n, uint8_t *table, size_t room,
 /*
  * Writes the file of a pay table into the `room` bytes at `file`. A table of
  * the wrong shape is refused (24), then come the refusals of the file that
- * would be formed, with its records and fields, then 23. Nothing is written
- * before the answer is known.
+ * would be formed, with its records and fields, then 23. Granted, the file
+ * stands in front, `length` is how many bytes it has, and the bytes behind it
+ * stay. Room of 2 * n + 816 bytes is always enough, and so are 94,000,000.
+ * `file` may be null if room is 0.
  */
 uint64_t ach_write(const uint8_t *table, size_t n, uint8_t *file, size_t room,
                    uint64_t *length);
@@ -67,17 +100,18 @@ uint64_t ach_write(const uint8_t *table, size_t n, uint8_t *file, size_t room,
 /*
  * Puts a new amount, in cents, into entry number `entry` (from 1 through the
  * file) of an accepted file, with the totals of its side in the batch's and
- * the file's control. `difference` is the new amount less the old. Refused:
- * the file's own, 25 no such entry, 14 an amount that the code does not carry,
- * 20 a total that would pass 999,999,999,999 cents.
+ * the file's control; no other byte changes. `difference` is the new amount
+ * less the old. Refused: the file's own, 25 no such entry, 14 an amount that
+ * the code does not carry (at the entry's record), 20 a total that would pass
+ * 999,999,999,999 cents (at the batch's control, then at the file's).
  */
 uint64_t ach_alter(uint8_t *file, size_t n, uint64_t entry, uint64_t amount,
                    int64_t *difference);
 
 /*
- * Tells where the addendum of an entry stands: `length` bytes from `start` on
- * in the file, or 0 and 0 where the entry has none. Refused: the file's own,
- * then 25.
+ * Tells where the addendum of an entry stands: `length` (80) bytes from
+ * `start` on in the file, counted from 0, or 0 and 0 where the entry has none.
+ * Refused: the file's own, then 25.
  */
 uint64_t ach_addendum(const uint8_t *file, size_t n, uint64_t entry,
                       uint64_t *start, uint64_t *length);

@@ -2,15 +2,16 @@
 //!
 //! Every function answers 0 if it grants, else number + 256 * field + 65536 * record. A refusal
 //! leaves all lent memory untouched.
+//!
+//! # Safety
+//! A pointer is to as many bytes as the length behind it says, or to as many numbers as the
+//! function writes; a null pointer will do for no bytes. What is lent to one call is apart.
 
 extern "C" {
     /// Checks the `n` bytes at `file`. Granted, it fills 21 numbers: batches, entries, addenda,
     /// debit and credit cents, then count and cents for each of the eight codes.
     pub fn ach_check(file: *const u8, n: usize, acceptance: *mut u64) -> u64;
-}
 
-#[cfg(feature = "read_write")]
-extern "C" {
     /// Writes the pay table of a file to `table`, and its length to `length`.
     pub fn ach_read(
         file: *const u8,
@@ -28,10 +29,7 @@ extern "C" {
         room: usize,
         length: *mut u64,
     ) -> u64;
-}
 
-#[cfg(feature = "alter")]
-extern "C" {
     /// Gives an entry a new amount; the new less the old goes to `difference`.
     pub fn ach_alter(file: *mut u8, n: usize, entry: u64, amount: u64, difference: *mut i64)
         -> u64;

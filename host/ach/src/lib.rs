@@ -1,37 +1,55 @@
 //! Qalarimo ACH: checking, reading, writing and altering ACH payment files.
 //!
 //! The work is done by a proved library, which this crate links as an archive. What is here turns
-//! slices into pointers and numbers into answers, and nothing else.
+//! slices into pointers and numbers into answers, and nothing else. Every function takes any
+//! bytes, does its own checking, and leaves what it was lent untouched when it refuses.
+//!
+//! A *file* is records of 94 bytes, back to back, without line ends. A *pay table* holds the same
+//! payments without what can be computed from them: counts, hashes, totals and fillers.
+//!
+//! ```
+//! let table = include_bytes!("../../../samples/whole.table");
+//! let mut file = ach::file_of(table)?;
+//! assert_eq!(ach::check(&file)?.credit, 12_550);
+//! assert_eq!(ach::alter(&mut file, 1, 20_000)?, 10_000);
+//! assert_eq!(ach::check(&file)?.credit, 22_550);
+//! # Ok::<(), ach::Refusal>(())
+//! ```
+
+#![deny(missing_docs)]
 
 pub mod boundary;
+pub mod fields;
+mod refusal;
+
+pub use refusal::{reason, Refusal};
 
 /// How many numbers an acceptance has at the boundary.
 pub const ACCEPTANCE_LENGTH: usize = 21;
 
-/// Why something was refused, and where; record and field are 0 where there is no place to name.
-#[derive(Clone, Copy, Debug, PartialEq, Eq)]
-pub struct Refusal {
-    pub number: u8,
-    pub record: u64,
-    pub field: u8,
-}
+/// The transaction codes that are known, in the order of [`Acceptance::by_code`].
+pub const CODES: [u8; 8] = [22, 23, 27, 28, 32, 33, 37, 38];
 
-impl Refusal {
-    fn from_answer(answer: u64) -> Self {
-        let [number, field, ..] = answer.to_le_bytes();
-        Refusal { number, record: answer >> 16, field }
-    }
-}
+/// The length of the longest file: a million records.
+pub const LONGEST_FILE: usize = 94_000_000;
+
+/// No pay table of right shape is longer: 999,999 rows, in each of three sections, and the header.
+pub const LONGEST_TABLE: usize = 109 + (95 + 93 + 80) * 999_999;
 
 /// What an accepted file holds.
 #[derive(Clone, Copy, Debug, PartialEq, Eq)]
 pub struct Acceptance {
+    /// How many batches.
     pub batches: u64,
+    /// How many entries, in all batches.
     pub entries: u64,
+    /// How many of the entries have an addendum.
     pub addenda: u64,
+    /// The cents of all debit entries.
     pub debit: u64,
+    /// The cents of all credit entries.
     pub credit: u64,
-    /// How many entries and how many cents, for the codes 22, 23, 27, 28, 32, 33, 37, 38 in turn.
+    /// How many entries and how many cents, for each of [`CODES`] in turn.
     pub by_code: [u64; 16],
 }
 
@@ -43,6 +61,17 @@ fn granted(answer: u64) -> Result<(), Refusal> {
 }
 
 /// Tells what an ACH file holds, or the first reason why it is none.
+///
+/// ```
+/// let file = include_bytes!("../../../samples/whole.ach");
+/// let held = ach::check(file)?;
+/// assert_eq!((held.batches, held.entries, held.addenda), (1, 2, 1));
+/// assert_eq!((held.debit, held.credit), (0, 12_550));
+///
+/// let refusal = ach::check(&file[..94]).unwrap_err();
+/// assert_eq!((refusal.number, refusal.record, refusal.field), (2, 2, 0));
+/// # Ok::<(), ach::Refusal>(())
+/// ```
 pub fn check(file: &[u8]) -> Result<Acceptance, Refusal> {
     let mut numbers = [0; ACCEPTANCE_LENGTH];
     // SAFETY: the pointers come from a slice and an array of the lengths that the boundary names.
@@ -52,8 +81,34 @@ pub fn check(file: &[u8]) -> Result<Acceptance, Refusal> {
     Ok(Acceptance { batches, entries, addenda, debit, credit, by_code })
 }
 
+/// The line that the check program prints for an answer: `OK batches entries addenda debit credit`
+/// with the sums in cents, or `NO number record field`.
+///
+/// ```
+/// let file = include_bytes!("../../../samples/whole.ach");
+/// assert_eq!(ach::line(&ach::check(file)), "OK 1 2 1 0 12550");
+/// assert_eq!(ach::line(&ach::check(b"")), "NO 1 0 0");
+/// ```
+pub fn line(answer: &Result<Acceptance, Refusal>) -> String {
+    match answer {
+        Ok(Acceptance { batches, entries, addenda, debit, credit, .. }) => {
+            format!("OK {batches} {entries} {addenda} {debit} {credit}")
+        }
+        Err(Refusal { number, record, field }) => format!("NO {number} {record} {field}"),
+    }
+}
+
 /// Writes the pay table of a file to the front of the room, and tells its length.
-#[cfg(feature = "read_write")]
+///
+/// ```
+/// let file = include_bytes!("../../../samples/whole.ach");
+/// let mut room = [b'?'; 500];
+/// assert_eq!(ach::read(file, &mut room)?, 470);
+/// assert_eq!(&room[..470], include_bytes!("../../../samples/whole.table"));
+/// assert_eq!(room[470..], [b'?'; 30]);
+/// assert_eq!(ach::read(file, &mut room[..469]).unwrap_err().number, 23);
+/// # Ok::<(), ach::Refusal>(())
+/// ```
 pub fn read(file: &[u8], room: &mut [u8]) -> Result<usize, Refusal> {
     let mut length = 0;
     // SAFETY: as for `check`; the room is lent for writing and does not overlap the file.
@@ -65,7 +120,15 @@ pub fn read(file: &[u8], room: &mut [u8]) -> Result<usize, Refusal> {
 }
 
 /// Writes the file that a pay table stands for to the front of the room, and tells its length.
-#[cfg(feature = "read_write")]
+///
+/// ```
+/// let table = include_bytes!("../../../samples/whole.table");
+/// let mut room = [0; 940];
+/// assert_eq!(ach::write(table, &mut room)?, 940);
+/// assert_eq!(&room, include_bytes!("../../../samples/whole.ach"));
+/// assert_eq!(ach::write(b"no table", &mut room).unwrap_err().number, 24);
+/// # Ok::<(), ach::Refusal>(())
+/// ```
 pub fn write(table: &[u8], room: &mut [u8]) -> Result<usize, Refusal> {
     let mut length = 0;
     // SAFETY: as for `read`.
@@ -76,9 +139,52 @@ pub fn write(table: &[u8], room: &mut [u8]) -> Result<usize, Refusal> {
     Ok(length as usize)
 }
 
+/// The pay table of a file, in memory of its own.
+///
+/// ```
+/// let file = include_bytes!("../../../samples/whole.ach");
+/// assert_eq!(ach::table_of(file)?, include_bytes!("../../../samples/whole.table"));
+/// # Ok::<(), ach::Refusal>(())
+/// ```
+pub fn table_of(file: &[u8]) -> Result<Vec<u8>, Refusal> {
+    // Every row of a table is shorter than the records that stand for it.
+    in_room_of(file.len(), |room| read(file, room))
+}
+
+/// The file that a pay table stands for, in memory of its own.
+///
+/// ```
+/// let table = include_bytes!("../../../samples/whole.table");
+/// assert_eq!(ach::file_of(table)?, include_bytes!("../../../samples/whole.ach"));
+/// # Ok::<(), ach::Refusal>(())
+/// ```
+pub fn file_of(table: &[u8]) -> Result<Vec<u8>, Refusal> {
+    // A batch of 95 bytes becomes two records; two more records and up to nine fillers come along.
+    let enough = table.len().saturating_mul(2).saturating_add(816);
+    in_room_of(enough.min(LONGEST_FILE), |room| write(table, room))
+}
+
+fn in_room_of(
+    most: usize,
+    fill: impl Fn(&mut [u8]) -> Result<usize, Refusal>,
+) -> Result<Vec<u8>, Refusal> {
+    let mut room = vec![0; most];
+    let length = fill(&mut room)?;
+    room.truncate(length);
+    Ok(room)
+}
+
 /// Gives an entry, counted from 1, a new amount in cents and brings the totals along. Tells the
 /// new amount less the old.
-#[cfg(feature = "alter")]
+///
+/// ```
+/// let mut file = *include_bytes!("../../../samples/whole.ach");
+/// assert_eq!(ach::alter(&mut file, 2, 2_500)?, -50);
+/// let refusal = ach::alter(&mut file, 2, 0).unwrap_err();
+/// assert_eq!((refusal.number, refusal.record, refusal.field), (14, 4, 6));
+/// assert_eq!(ach::check(&file)?.credit, 12_500);
+/// # Ok::<(), ach::Refusal>(())
+/// ```
 pub fn alter(file: &mut [u8], entry: u64, amount: u64) -> Result<i64, Refusal> {
     let mut difference = 0;
     // SAFETY: as for `check`; the file is lent for writing.
@@ -90,7 +196,14 @@ pub fn alter(file: &mut [u8], entry: u64, amount: u64) -> Result<i64, Refusal> {
 }
 
 /// The 80 bytes of text in the addendum of an entry, counted from 1; nothing if it has none.
-#[cfg(feature = "alter")]
+///
+/// ```
+/// let file = include_bytes!("../../../samples/whole.ach");
+/// assert_eq!(ach::addendum(file, 1)?, b"");
+/// assert!(ach::addendum(file, 2)?.starts_with(b"REIMBURSEMENT OF TRAVEL, OCTOBER "));
+/// assert_eq!(ach::addendum(file, 3).unwrap_err().number, 25);
+/// # Ok::<(), ach::Refusal>(())
+/// ```
 pub fn addendum(file: &[u8], entry: u64) -> Result<&[u8], Refusal> {
     let (mut start, mut length) = (0, 0);
     // SAFETY: as for `check`.

@@ -17,9 +17,7 @@ fn main() {
     println!("a file of {RECORDS} records, {} bytes, best of {ROUNDS}", file.len());
     println!("           proved library          independent             ratio");
     check(&file);
-    #[cfg(feature = "read_write")]
     read_and_write(&file);
-    #[cfg(feature = "alter")]
     alter(&file);
 }
 
@@ -35,7 +33,6 @@ fn check(file: &[u8]) {
     );
 }
 
-#[cfg(feature = "read_write")]
 fn read_and_write(file: &[u8]) {
     let table = independent::read(file).expect("the file is in order");
     let (mut one, mut other) = (vec![0; table.len()], vec![0; table.len()]);
@@ -52,7 +49,6 @@ fn read_and_write(file: &[u8]) {
     );
 }
 
-#[cfg(feature = "alter")]
 fn alter(file: &[u8]) {
     let entry = middle_live_entry(file);
     let (mut one, mut other) = (file.to_vec(), file.to_vec());
@@ -69,7 +65,6 @@ fn alter(file: &[u8]) {
 }
 
 /// The number of an entry in the middle of the file that carries money.
-#[cfg(feature = "alter")]
 fn middle_live_entry(file: &[u8]) -> u64 {
     let entries = file.chunks(generate::RECORD).filter(|record| record[0] == b'6');
     let is_live = |record: &[u8]| [b'2', b'7'].contains(&record[2]);

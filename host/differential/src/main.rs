@@ -1,16 +1,18 @@
-//! `differential check | readwrite | alter`: puts the same cases to the proved library and to the
-//! independent implementation, and ends with a line of how many there were and how many differed.
+//! `differential check | readwrite | alter | fuzz SECONDS`: puts the same cases to the proved
+//! library and to the independent implementation, and ends with a line of how many there were and
+//! how many differed.
 //!
-//! ACH_SEED chooses other random cases, ACH_CASES how many of them there are.
+//! ACH_SEED chooses other random cases, ACH_CASES how many of them there are. A fuzz run without
+//! ACH_SEED takes another seed each time, and prints it.
 
-#[cfg(feature = "alter")]
 mod alter;
 mod check;
-#[cfg(feature = "read_write")]
+mod fuzz;
 mod read_write;
 mod tally;
 
 use std::process::ExitCode;
+use std::time::{SystemTime, UNIX_EPOCH};
 use tally::Tally;
 
 const DEFAULT_SEED: u64 = 20_260_101;
@@ -20,25 +22,29 @@ pub struct Run {
     pub seed: u64,
     /// How many random cases; None for the number that suits the subcommand.
     pub cases: Option<u64>,
+    /// How long a fuzz run lasts.
+    pub seconds: u64,
 }
 
 fn main() -> ExitCode {
-    let subcommand = std::env::args().nth(1).unwrap_or_default();
-    let run = Run {
-        seed: number_from_environment("ACH_SEED").unwrap_or(DEFAULT_SEED),
-        cases: number_from_environment("ACH_CASES"),
-    };
-    let compare: fn(&Run, &mut Tally) = match subcommand.as_str() {
-        "check" => check::compare,
-        #[cfg(feature = "read_write")]
-        "readwrite" => read_write::compare,
-        #[cfg(feature = "alter")]
-        "alter" => alter::compare,
+    let mut arguments = std::env::args().skip(1);
+    let subcommand = arguments.next().unwrap_or_default();
+    let seconds = arguments.next().and_then(|text| text.parse().ok());
+    let compare: fn(&Run, &mut Tally) = match (subcommand.as_str(), seconds) {
+        ("check", None) => check::compare,
+        ("readwrite", None) => read_write::compare,
+        ("alter", None) => alter::compare,
+        ("fuzz", Some(_)) => fuzz::compare,
         _ => {
-            eprintln!("usage: differential check | readwrite | alter");
-            eprintln!("the last two are there with the features read_write and alter");
+            eprintln!("usage: differential check | readwrite | alter | fuzz SECONDS");
             return ExitCode::from(2);
         }
+    };
+    let usual_seed = if seconds.is_some() { seed_of_the_moment() } else { DEFAULT_SEED };
+    let run = Run {
+        seed: number_from_environment("ACH_SEED").unwrap_or(usual_seed),
+        cases: number_from_environment("ACH_CASES"),
+        seconds: seconds.unwrap_or_default(),
     };
     println!("differential {subcommand}: seed {}", run.seed);
     let mut tally = Tally::default();
@@ -53,6 +59,11 @@ fn main() -> ExitCode {
     } else {
         ExitCode::FAILURE
     }
+}
+
+fn seed_of_the_moment() -> u64 {
+    let since = SystemTime::now().duration_since(UNIX_EPOCH);
+    since.map_or(DEFAULT_SEED, |time| time.as_nanos() as u64)
 }
 
 fn number_from_environment(name: &str) -> Option<u64> {

@@ -60,6 +60,19 @@ impl Tally {
         }
     }
 
+    /// Counts a case, and reports it if what has to hold does not.
+    pub fn holds(&mut self, about: &str, input: &[u8], holds: bool) {
+        self.cases += 1;
+        if holds {
+            return;
+        }
+        self.differences += 1;
+        if self.differences <= MOST_REPORTS {
+            println!("difference {}: {about} does not hold", self.differences);
+            self.keep_input(input);
+        }
+    }
+
     fn keep_input(&self, input: &[u8]) {
         let path = self.path_for_input();
         match std::fs::write(&path, input) {
@@ -96,6 +109,6 @@ fn described<const N: usize>(outcome: &Outcome<N>) -> String {
 }
 
 /// A refusal as the boundary spells it.
-fn answer(refusal: Refusal) -> u64 {
+pub fn answer(refusal: Refusal) -> u64 {
     u64::from(refusal.number) + 256 * u64::from(refusal.field) + 65_536 * refusal.record
 }

@@ -13,5 +13,5 @@ mod table;
 
 pub use alter::{addendum, alter};
 pub use check::check;
-pub use outcome::{reason, Acceptance, Refusal};
+pub use outcome::{line, reason, Acceptance, Refusal};
 pub use table::{read, read_into, write, write_into};

@@ -54,3 +54,13 @@ pub struct Acceptance {
     /// How many entries and how many cents, for the codes 22, 23, 27, 28, 32, 33, 37, 38 in turn.
     pub by_code: [u64; 16],
 }
+
+/// The line of the check program.
+pub fn line(outcome: &Result<Acceptance, Refusal>) -> String {
+    let (word, numbers) = match *outcome {
+        Ok(held) => ("OK", vec![held.batches, held.entries, held.addenda, held.debit, held.credit]),
+        Err(no) => ("NO", vec![no.number.into(), no.record, no.field.into()]),
+    };
+    let spelled: String = numbers.iter().map(|number| format!(" {number}")).collect();
+    format!("{word}{spelled}")
+}

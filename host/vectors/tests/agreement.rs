@@ -1,7 +1,7 @@
 //! The lines stated with the vectors against the independent implementation, and the vectors
 //! against the list of what they have to show.
 
-use independent::{check, Refusal};
+use independent::{check, line};
 use std::collections::BTreeSet;
 
 /// A field and the numbers that it can be refused with.
@@ -88,20 +88,10 @@ const REFUSALS: [(u8, &[Refusals]); 6] = [
     ),
 ];
 
-fn line(file: &[u8]) -> String {
-    match check(file) {
-        Ok(held) => format!(
-            "OK {} {} {} {} {}",
-            held.batches, held.entries, held.addenda, held.debit, held.credit
-        ),
-        Err(Refusal { number, record, field }) => format!("NO {number} {record} {field}"),
-    }
-}
-
 #[test]
 fn the_independent_implementation_agrees() {
     for vector in vectors::all() {
-        assert_eq!(line(&vector.file), vector.line, "{}", vector.about);
+        assert_eq!(line(&check(&vector.file)), vector.line, "{}", vector.about);
     }
 }
 

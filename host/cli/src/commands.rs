@@ -1,0 +1,211 @@
+//! What each command does: bytes in, a question to the library, its answer out.
+
+use crate::explain;
+use crate::input::{self, Content, Stamp};
+use crate::money::{signed, spelled};
+use crate::options::{Amount, Command, Entry, Source, Target, HELP};
+use crate::output;
+use crate::progress::Progress;
+use crate::show;
+use crate::trouble::{failed, standard_output, Trouble};
+use crate::words;
+use ach::{Acceptance, Refusal};
+use std::io::{self, BufWriter, Write};
+
+pub fn run(command: Command) -> Result<(), Trouble> {
+    match command {
+        Command::Help => say(HELP),
+        Command::Version => say(&format!("ach {}\n", env!("CARGO_PKG_VERSION"))),
+        Command::Check { file, line } => check(&file, line),
+        Command::Show { file } => show(&file),
+        Command::Read { file, target, line } => read(&file, &target, line),
+        Command::Write { table, target, line } => write(&table, &target, line),
+        Command::Alter { file, entry, amount, target, line } => {
+            alter(&file, &entry, &amount, &target, line)
+        }
+        Command::Addendum { file, entry } => addendum(&file, &entry),
+        Command::Explain { number } => say(&explain::of_number(number)),
+    }
+}
+
+/// What was read of a file or a table that is not too long to be one.
+struct Loaded {
+    name: String,
+    bytes: Vec<u8>,
+    stamp: Option<Stamp>,
+}
+
+fn load_file(source: &Source, line: bool) -> Result<Loaded, Trouble> {
+    load(source, ach::LONGEST_FILE)?
+        .map_err(|name| refused(Refusal::without_place(1), line, || words::of_long_file(&name)))
+}
+
+fn load_table(source: &Source, line: bool) -> Result<Loaded, Trouble> {
+    load(source, ach::LONGEST_TABLE)?
+        .map_err(|name| refused(Refusal::without_place(24), line, || words::of_long_table(&name)))
+}
+
+/// The bytes, or the name of what is too long.
+fn load(source: &Source, most: usize) -> Result<Result<Loaded, String>, Trouble> {
+    let name = source.name();
+    let input = watched("reading", &name, || input::read(source, most))?;
+    Ok(match input.content {
+        Content::Bytes(bytes) => Ok(Loaded { name, bytes, stamp: input.stamp }),
+        Content::TooLong => Err(name),
+    })
+}
+
+/// Does the work, and speaks of it on the terminal if it takes long.
+fn watched<T>(doing: &str, name: &str, work: impl FnOnce() -> T) -> T {
+    let _progress = Progress::of(format!("ach: {doing} {name}"));
+    work()
+}
+
+/// What the library refused: a line on standard output, or words for standard error.
+fn refused(refusal: Refusal, line: bool, words: impl FnOnce() -> String) -> Trouble {
+    if !line {
+        return Trouble::Refused(words());
+    }
+    match say_line(Err(refusal)) {
+        Ok(()) => Trouble::Refused(String::new()),
+        Err(trouble) => trouble,
+    }
+}
+
+fn say(text: &str) -> Result<(), Trouble> {
+    let mut to = io::stdout().lock();
+    to.write_all(text.as_bytes()).and_then(|()| to.flush()).map_err(standard_output)
+}
+
+/// Says what was done, but not where the result itself goes.
+fn say_beside(target: &Target, text: &str) -> Result<(), Trouble> {
+    match target {
+        Target::StandardOutput => {
+            // The result is out; that nobody listens to the rest does not undo it.
+            let _ = io::stderr().lock().write_all(text.as_bytes());
+            Ok(())
+        }
+        _ => say(text),
+    }
+}
+
+/// The check program's line.
+fn say_line(answer: Result<Acceptance, Refusal>) -> Result<(), Trouble> {
+    say(&format!("{}\n", ach::line(&answer)))
+}
+
+fn held_words(held: &Acceptance) -> String {
+    format!(
+        "batches {}, entries {}, addenda {}, debits {}, credits {}",
+        held.batches,
+        held.entries,
+        held.addenda,
+        spelled(held.debit),
+        spelled(held.credit)
+    )
+}
+
+fn check_bytes(loaded: &Loaded, line: bool) -> Result<Acceptance, Trouble> {
+    let Loaded { name, bytes, .. } = loaded;
+    watched("checking", name, || ach::check(bytes))
+        .map_err(|refusal| refused(refusal, line, || words::of_file(name, bytes, refusal)))
+}
+
+fn check(file: &Source, line: bool) -> Result<(), Trouble> {
+    let loaded = load_file(file, line)?;
+    let held = check_bytes(&loaded, line)?;
+    if line {
+        return say_line(Ok(held));
+    }
+    say(&format!("{}: accepted; {}\n", loaded.name, held_words(&held)))
+}
+
+fn show(file: &Source) -> Result<(), Trouble> {
+    let loaded = load_file(file, false)?;
+    let held = check_bytes(&loaded, false)?;
+    let table =
+        watched("reading", &loaded.name, || ach::table_of(&loaded.bytes)).map_err(|refusal| {
+            Trouble::Refused(words::of_file(&loaded.name, &loaded.bytes, refusal))
+        })?;
+    let mut to = BufWriter::new(io::stdout().lock());
+    show::page(&loaded.name, &table, &held, &mut to)
+        .and_then(|()| to.flush())
+        .map_err(standard_output)
+}
+
+fn read(file: &Source, target: &Target, line: bool) -> Result<(), Trouble> {
+    output::look_at(target)?;
+    let loaded = load_file(file, line)?;
+    let Loaded { name, bytes, .. } = &loaded;
+    let table = watched("reading", name, || ach::table_of(bytes))
+        .map_err(|refusal| refused(refusal, line, || words::of_file(name, bytes, refusal)))?;
+    put(target, &table, None)?;
+    report(target, bytes, table.len(), line)
+}
+
+fn write(table: &Source, target: &Target, line: bool) -> Result<(), Trouble> {
+    output::look_at(target)?;
+    let loaded = load_table(table, line)?;
+    let Loaded { name, bytes, .. } = &loaded;
+    let file = watched("writing from", name, || ach::file_of(bytes))
+        .map_err(|refusal| refused(refusal, line, || words::of_table(name, bytes, refusal)))?;
+    put(target, &file, None)?;
+    report(target, &file, file.len(), line)
+}
+
+fn put(target: &Target, bytes: &[u8], read: Option<Stamp>) -> Result<(), Trouble> {
+    watched("writing", &target.name(), || output::put(target, bytes, read))
+}
+
+/// Says how much was written, and what the file holds that it stands for.
+fn report(target: &Target, file: &[u8], length: usize, line: bool) -> Result<(), Trouble> {
+    let Ok(held) = ach::check(file) else {
+        return failed("the library refuses what it has just granted");
+    };
+    if line {
+        return say_line(Ok(held));
+    }
+    let words = format!("{}: {length} bytes written; {}\n", target.name(), held_words(&held));
+    say_beside(target, &words)
+}
+
+fn alter(
+    file: &Source,
+    entry: &Entry,
+    amount: &Amount,
+    target: &Target,
+    line: bool,
+) -> Result<(), Trouble> {
+    output::look_at(target)?;
+    let mut loaded = load_file(file, line)?;
+    let (name, bytes) = (&loaded.name, &mut loaded.bytes);
+    let altered = watched("altering", name, || ach::alter(bytes, entry.number, amount.number));
+    let difference = altered.map_err(|refusal| {
+        refused(refusal, line, || words::of_alteration(name, bytes, refusal, entry, amount))
+    })?;
+    put(target, bytes, loaded.stamp)?;
+    if line {
+        return report(target, bytes, bytes.len(), line);
+    }
+    let old = amount.number as i64 - difference;
+    let words = format!(
+        "{}: entry {} from {} to {} ({})\n",
+        target.name(),
+        entry.number,
+        spelled(old as u64),
+        spelled(amount.number),
+        signed(difference)
+    );
+    say_beside(target, &words)
+}
+
+fn addendum(file: &Source, entry: &Entry) -> Result<(), Trouble> {
+    let Loaded { name, bytes, .. } = load_file(file, false)?;
+    let text = watched("reading", &name, || ach::addendum(&bytes, entry.number))
+        .map_err(|refusal| Trouble::Refused(words::of_addendum(&name, &bytes, refusal, entry)))?;
+    if text.is_empty() {
+        let _ = writeln!(io::stderr().lock(), "{name}: entry {} has no addendum", entry.number);
+        return Ok(());
+    }
+    say(&format!("{}\n", show::trimmed(text)))
+}

@@ -1,0 +1,275 @@
+//! What has to stand in a field that was refused, as far as the records before it tell.
+//!
+//! The first refusal is what is being explained, so everything before it is in order.
+
+use crate::money::{of_digits, spelled};
+use crate::words::plain_text;
+use ach::fields::{record_type, Field, Kind, Near, Own, Sum, RECORD};
+use std::fmt;
+
+const LARGEST_TOTAL: u64 = 999_999_999_999;
+
+/// What is due: words, and before them the very text where there is but one.
+pub struct Due {
+    text: Option<Vec<u8>>,
+    words: String,
+}
+
+impl fmt::Display for Due {
+    fn fmt(&self, to: &mut fmt::Formatter) -> fmt::Result {
+        match &self.text {
+            Some(text) => write!(to, "{}, {}", plain_text(text), self.words),
+            None => to.write_str(&self.words),
+        }
+    }
+}
+
+fn words(words: impl Into<String>) -> Due {
+    Due { words: words.into(), text: None }
+}
+
+fn text(text: impl Into<Vec<u8>>, why: &str) -> Due {
+    Due { text: Some(text.into()), words: why.into() }
+}
+
+/// A refused field in its file.
+pub struct Place<'f> {
+    /// The records before the refused one.
+    pub before: &'f [u8],
+    pub record: &'f [u8],
+    pub field: &'static Field,
+    pub number: u8,
+}
+
+impl<'f> Place<'f> {
+    pub fn due(&self) -> Due {
+        let width = self.field.width();
+        match self.field.kind {
+            Kind::Type => next_types(self.before),
+            Kind::Fixed(number) => text(format!("{number:0width$}"), "in every file"),
+            Kind::Blanks => text(vec![b' '; width], "blanks in every file"),
+            Kind::Digits => words("digits"),
+            Kind::Optional => words("capital letters, digits and signs, or nothing but blanks"),
+            Kind::Mandatory => words("capital letters, digits and signs, from the first column on"),
+            Kind::Date => words("a day from 2000 to 2099, as YYMMDD"),
+            Kind::Own(own) => self.own(own),
+            Kind::Near(near) => self.near(near),
+            Kind::AsBatch(column) => {
+                let start = usize::from(column) - 1;
+                text(&self.header()[start..start + width], "as in the batch's header")
+            }
+            Kind::Count(sum) | Kind::Hash(sum) | Kind::Total(sum) => self.sum(sum),
+        }
+    }
+
+    fn own(&self, own: Own) -> Due {
+        match own {
+            Own::Destination if self.number == 12 => {
+                let bank = &self.field.of(self.record)[1..9];
+                let due = [b" ", bank, &[check_digit(bank)]].concat();
+                text(due, "if all digits but the last are right")
+            }
+            Own::Destination => words("a blank, and then a bank's nine digits"),
+            Own::Origin => words("a blank or a digit, and then nine digits"),
+            Own::Time => words("a time from 0000 to 2359, or four blanks"),
+            Own::Modifier => words("a capital letter or a digit"),
+            Own::Class => words("200 (credits and debits), 220 (credits) or 225 (debits)"),
+            Own::EntryClass => words("PPD or CCD"),
+            Own::Bank => words("eight digits, the first of them 0 to 3"),
+            Own::Account => words("digits and hyphens from the first column on, then blanks"),
+            Own::Flag => words("1 if an addendum follows, else 0"),
+        }
+    }
+
+    fn near(&self, near: Near) -> Due {
+        match near {
+            Near::Code => match part(b'5', 2, self.header()) {
+                b"220" => words("22, 23, 32 or 33: the batch is for credits"),
+                b"225" => words("27, 28, 37 or 38: the batch is for debits"),
+                _ => words("22, 23, 32 or 33 for a credit, 27, 28, 37 or 38 for a debit"),
+            },
+            Near::CheckDigit => {
+                let bank = part(b'6', 3, self.record);
+                text([check_digit(bank)], "if the eight digits before it are right")
+            }
+            Near::Amount => amount_of(part(b'6', 2, self.record)),
+            Near::Trace => self.trace(),
+            Near::EntryTrace => {
+                let entry = last(self.before).unwrap_or(self.record);
+                text(&part(b'6', 11, entry)[8..], "as the entry's trace number ends")
+            }
+            Near::BatchNumber => match self.records_back(b'5').next() {
+                None => words("digits, at least 0000001"),
+                Some(header) => {
+                    let before = plain_text(part(b'5', 13, header));
+                    words(format!("digits, more than the batch before has: {before}"))
+                }
+            },
+        }
+    }
+
+    fn trace(&self) -> Due {
+        let bank = part(b'5', 12, self.header());
+        let entry = self.records_back_in_batch().find(|record| record[0] == b'6');
+        let bank_text = plain_text(bank);
+        match entry.map(|entry| of_digits(&part(b'6', 11, entry)[8..])) {
+            None => words(format!("{bank_text}, as in the batch's header, and 0000001 or more")),
+            Some(9_999_999) => words("nothing: no number is left behind 9999999 in this batch"),
+            Some(before) => {
+                let due = [bank, format!("{:07}", before + 1).as_bytes()].concat();
+                text(due, "one more than the entry before")
+            }
+        }
+    }
+
+    fn sum(&self, sum: Sum) -> Due {
+        let (value, why) = match sum {
+            Sum::BatchRecords => (count(self.of_batch()), "the batch's entries and addenda"),
+            Sum::FileRecords => (count(self.of_file()), "the file's entries and addenda"),
+            Sum::BatchHash => (hash(self.of_batch()), "the sum of the batch's bank numbers"),
+            Sum::FileHash => (hash(self.of_file()), "the sum of the file's bank numbers"),
+            Sum::BatchDebit => (cents(self.of_batch(), false), "the sum of the batch's debits"),
+            Sum::BatchCredit => (cents(self.of_batch(), true), "the sum of the batch's credits"),
+            Sum::FileDebit => (cents(self.of_file(), false), "the sum of the file's debits"),
+            Sum::FileCredit => (cents(self.of_file(), true), "the sum of the file's credits"),
+            Sum::Batches => (self.records_back(b'5').count() as u64, "the file's batches"),
+            Sum::Blocks => {
+                let records = self.before.len() / RECORD + 1;
+                (records.div_ceil(10) as u64, "this record's number by ten, rounded up")
+            }
+        };
+        if value > LARGEST_TOTAL {
+            let (sum, most) = (spelled(value), spelled(LARGEST_TOTAL));
+            return words(format!("at most {most}; {why} is {sum}: split the payments"));
+        }
+        let width = self.field.width();
+        text(format!("{value:0width$}"), why)
+    }
+
+    /// The header of the batch that the record belongs to.
+    fn header(&self) -> &'f [u8] {
+        self.records_back(b'5').next().unwrap_or(&[b' '; RECORD])
+    }
+
+    fn of_file(&self) -> impl Iterator<Item = &'f [u8]> {
+        self.before.chunks_exact(RECORD)
+    }
+
+    fn of_batch(&self) -> impl Iterator<Item = &'f [u8]> {
+        self.records_back_in_batch()
+    }
+
+    fn records_back_in_batch(&self) -> impl Iterator<Item = &'f [u8]> {
+        self.before.rchunks_exact(RECORD).take_while(|record| record[0] != b'5')
+    }
+
+    fn records_back(&self, digit: u8) -> impl Iterator<Item = &'f [u8]> {
+        self.before.rchunks_exact(RECORD).filter(move |record| record[0] == digit)
+    }
+}
+
+/// The record types that may follow the records before.
+pub fn next_types(before: &[u8]) -> Due {
+    let one = |digit, why| text([digit], why);
+    let Some(last) = last(before) else {
+        return one(b'1', "the file header");
+    };
+    match last[0] {
+        b'1' => one(b'5', "a batch header"),
+        b'5' => one(b'6', "an entry: a batch must not be empty"),
+        b'6' if part(b'6', 10, last) == b"1" => {
+            one(b'7', "the addendum that the entry before calls for in column 79")
+        }
+        b'6' => words("6, another entry, or 8, the batch control"),
+        b'7' => words("6, another entry, or 8, the batch control (one addendum an entry)"),
+        b'8' => words("5, another batch header, or 9, the file control"),
+        _ => words("a filler of 94 nines, up to a multiple of ten records"),
+    }
+}
+
+fn amount_of(code: &[u8]) -> Due {
+    match code {
+        b"23" | b"28" | b"33" | b"38" => text("0000000000", "since the code is a prenote's"),
+        _ => words("ten digits, from 0.01 to 99999999.99"),
+    }
+}
+
+/// A field of a record of this type; the caller knows that there is such a field.
+fn part(digit: u8, field: u8, record: &[u8]) -> &[u8] {
+    record_type(digit).and_then(|known| known.field(field)).map_or(&[], |field| field.of(record))
+}
+
+fn last(records: &[u8]) -> Option<&[u8]> {
+    records.rchunks_exact(RECORD).next()
+}
+
+fn count<'f>(records: impl Iterator<Item = &'f [u8]>) -> u64 {
+    records.filter(|record| matches!(record[0], b'6' | b'7')).count() as u64
+}
+
+fn entries<'f>(records: impl Iterator<Item = &'f [u8]>) -> impl Iterator<Item = &'f [u8]> {
+    records.filter(|record| record[0] == b'6')
+}
+
+fn hash<'f>(records: impl Iterator<Item = &'f [u8]>) -> u64 {
+    let sum: u64 = entries(records).map(|entry| of_digits(part(b'6', 3, entry))).sum();
+    sum % 10_000_000_000
+}
+
+fn cents<'f>(records: impl Iterator<Item = &'f [u8]>, credit: bool) -> u64 {
+    let of_side = entries(records).filter(|entry| is_credit(part(b'6', 2, entry)) == credit);
+    of_side.map(|entry| of_digits(part(b'6', 6, entry))).sum()
+}
+
+pub fn is_credit(code: &[u8]) -> bool {
+    matches!(code, b"22" | b"23" | b"32" | b"33")
+}
+
+/// The digit that brings the weighted sum to a multiple of ten.
+fn check_digit(bank: &[u8]) -> u8 {
+    let weights = [3, 7, 1, 3, 7, 1, 3, 7];
+    let weighed = bank.iter().zip(weights).map(|(digit, weight)| weight * (digit & 15) as u32);
+    b'0' + ((10 - weighed.sum::<u32>() % 10) % 10) as u8
+}
+
+#[cfg(test)]
+mod tests {
+    use crate::words::place_of;
+
+    /// Wherever there is but one text that is due, it makes the refusal at that place go away.
+    #[test]
+    fn what_is_due_is_taken() {
+        let mut tried = std::collections::BTreeSet::new();
+        for vector in vectors::all() {
+            let Err(refusal) = ach::check(&vector.file) else {
+                continue;
+            };
+            let Some(place) = place_of(&vector.file, refusal) else {
+                continue;
+            };
+            let Some(due) = place.due().text else {
+                continue;
+            };
+            let mut mended = vector.file.clone();
+            let start = place.before.len() + place.field.first - 1;
+            mended[start..start + due.len()].copy_from_slice(&due);
+            if let Err(next) = ach::check(&mended) {
+                let behind = (next.record, next.field) > (refusal.record, refusal.field);
+                assert!(behind, "{}: {refusal}, then {next}", vector.about);
+            }
+            tried.insert(refusal.number);
+        }
+        let numbers: Vec<u8> = tried.into_iter().collect();
+        assert_eq!(numbers, [3, 5, 6, 12, 14, 16, 18, 19, 21, 22]);
+    }
+
+    #[test]
+    fn no_explanation_panics() {
+        for vector in vectors::all() {
+            if let Err(refusal) = ach::check(&vector.file) {
+                let due = place_of(&vector.file, refusal).map(|place| place.due().to_string());
+                assert_ne!(due, Some(String::new()), "{}", vector.about);
+            }
+        }
+    }
+}

@@ -1,0 +1,119 @@
+//! What the refusals' numbers mean, and where each can be given.
+
+use crate::words::columns;
+use ach::fields::{Kind, RecordType, RECORD_TYPES};
+
+/// What a refusal's number means, and which fields can be refused with it.
+pub fn of_number(number: u8) -> String {
+    let reason = ach::reason(number).unwrap_or_default();
+    let mut lines = format!("{number}: {reason}\n{}\n", ADVICE[usize::from(number) - 1]);
+    for known in &RECORD_TYPES {
+        lines += &fields_with(known, number);
+    }
+    lines
+}
+
+fn fields_with(known: &RecordType, number: u8) -> String {
+    let mut lines = String::new();
+    for (field, index) in known.fields.iter().zip(1..) {
+        if numbers_of(field.kind).contains(&number) {
+            let columns = columns(field.first, field.last);
+            let digit = char::from(known.digit);
+            lines +=
+                &format!("  {digit} {}, field {index} {}, {columns}\n", known.name, field.name);
+        }
+    }
+    lines
+}
+
+/// The numbers that a field of this kind can be refused with.
+fn numbers_of(kind: Kind) -> &'static [u8] {
+    use ach::fields::{Near::*, Own::*};
+    match kind {
+        Kind::Type => &[3],
+        Kind::Fixed(_) | Kind::Blanks => &[5],
+        Kind::Digits => &[6],
+        Kind::Optional => &[7, 9],
+        Kind::Mandatory => &[7, 8, 9],
+        Kind::Date => &[6, 10],
+        Kind::Own(Destination) => &[5, 6, 12],
+        Kind::Own(Origin | Class) => &[6, 11],
+        Kind::Own(Time) => &[6, 10],
+        Kind::Own(Modifier | EntryClass | Flag) => &[11],
+        Kind::Own(Bank) => &[6, 13],
+        Kind::Own(Account) => &[7, 8, 9],
+        Kind::Near(Code) => &[6, 11, 15],
+        Kind::Near(CheckDigit) => &[6, 12],
+        Kind::Near(Amount) => &[6, 14],
+        Kind::Near(Trace | EntryTrace) => &[6, 16],
+        Kind::Near(BatchNumber) => &[6, 17],
+        Kind::AsBatch(_) => &[22],
+        Kind::Count(_) => &[6, 18],
+        Kind::Hash(_) => &[6, 19],
+        Kind::Total(_) => &[6, 20, 21],
+    }
+}
+
+/// What each number asks for, from 1 on.
+const ADVICE: [&str; 25] = [
+    "A file is records of 94 bytes, back to back, without line ends: 94 to 94,000,000 bytes.",
+    "The file ends early. Part of it is missing, or the fillers behind the file control are.",
+    "The order is 1, then batches of a 5, entries and an 8, then a 9 and fillers. An entry is a 6,\n\
+     with a 7 behind it exactly if its column 79 is 1. There is at least one batch, and none empty.",
+    "Behind the file control only as many fillers stand as make the records a multiple of ten.",
+    "Some columns hold the same in every file; a filler is 94 nines.",
+    "Only 0 to 9 may stand here, with zeros in front.",
+    "Text has capital letters, digits and signs; account numbers have digits and hyphens.",
+    "This field says something in every file.",
+    "Text begins in the first column of its field; an account number has no blank inside.",
+    "Days are written YYMMDD, times HHMM from 0000 to 2359.",
+    "Only certain values are known here, such as 220 for a batch of credits, or code 22.",
+    "The ninth digit of a bank's number is made from the eight before it. Compare the number with\n\
+     a voided check or ask the bank.",
+    "The numbers of banks that receive payments begin with 0, 1, 2 or 3.",
+    "Codes 23, 28, 33 and 38 are prenotes and carry 0; the others carry 0.01 to 99999999.99.",
+    "Under class 220 stand credits (22, 23, 32, 33), under 225 debits (27, 28, 37, 38), under 200\n\
+     both.",
+    "A trace number is the batch's bank and a number that rises by one from entry to entry; an\n\
+     addendum repeats that number.",
+    "Batch numbers start at 1 or above, and each is greater than the one before.",
+    "The control does not count what is there: an entry may be missing, or be there twice.",
+    "The hash is the sum of the entries' bank numbers without check digits, cut to ten digits.",
+    "A batch's or a file's debits or credits may come to 9,999,999,999.99. Split the payments.",
+    "The control's total is not what the entries come to: an amount or an entry was changed.",
+    "The batch control repeats class, company, bank and number of the batch header.",
+    "The result did not fit where it should go. Programs see this number; this command does not.",
+    "A pay table has a header row, batches, entries and addenda, each after a count of six digits.",
+    "Entries are counted from 1 through the file, as `ach show` does.",
+];
+
+#[cfg(test)]
+mod tests {
+    use super::*;
+    use crate::words::place_of;
+    use std::collections::BTreeSet;
+
+    #[test]
+    fn every_number_seen_is_listed_for_its_field() {
+        let mut seen = BTreeSet::new();
+        for vector in vectors::all() {
+            let Err(refusal) = ach::check(&vector.file) else {
+                continue;
+            };
+            if let Some(place) = place_of(&vector.file, refusal) {
+                let numbers = numbers_of(place.field.kind);
+                assert!(numbers.contains(&refusal.number), "{}: {refusal}", vector.about);
+                seen.insert((place.record[0], refusal.field, refusal.number));
+            }
+        }
+        // The vectors show every number of every field, so none may be listed beyond those.
+        for known in &RECORD_TYPES {
+            for (field, index) in known.fields.iter().zip(1..).skip(1) {
+                for &number in numbers_of(field.kind) {
+                    let shown = seen.contains(&(known.digit, index, number));
+                    assert!(shown, "{} field {index}: {number}", known.name);
+                }
+            }
+        }
+    }
+}

@@ -1,0 +1,254 @@
+//! Refusals in words that a clerk can act on: where, what stands there, what is due.
+
+use crate::due::{next_types, Place};
+use crate::formed;
+use crate::money::spelled;
+use crate::options::Written;
+use ach::fields::{record_type, RECORD, RECORD_TYPES};
+use ach::Refusal;
+
+/// Where a refused thing stands, what it is, and what it should be; empty lines are left out.
+#[derive(Default)]
+struct Explanation {
+    place: String,
+    stands: String,
+    due: String,
+}
+
+impl Explanation {
+    fn lines(&self, name: &str, refusal: Refusal) -> String {
+        let number = refusal.number;
+        let reason = ach::reason(number).unwrap_or("an unknown reason");
+        let mut lines = format!("{name}: refused, {number}: {reason}\n");
+        for (label, line) in [("where", &self.place), ("stands", &self.stands), ("due", &self.due)]
+        {
+            if !line.is_empty() {
+                lines += &format!("  {label:<7}{line}\n");
+            }
+        }
+        lines
+    }
+}
+
+/// A file's own refusal.
+pub fn of_file(name: &str, file: &[u8], refusal: Refusal) -> String {
+    let explanation = match refusal.number {
+        1 => length(file),
+        _ => in_records(file, refusal),
+    };
+    explanation.lines(name, refusal)
+}
+
+pub fn of_long_file(name: &str) -> String {
+    let stands = format!("more than {} bytes", ach::LONGEST_FILE);
+    Explanation { stands, due: due_length(), ..Explanation::default() }
+        .lines(name, Refusal::without_place(1))
+}
+
+pub fn of_long_table(name: &str) -> String {
+    let stands = format!("more than {} bytes", ach::LONGEST_TABLE);
+    let due = "at most 999999 batches, entries and addenda".into();
+    Explanation { stands, due, ..Explanation::default() }.lines(name, Refusal::without_place(24))
+}
+
+/// A refusal of the file that a table would become.
+pub fn of_table(name: &str, table: &[u8], refusal: Refusal) -> String {
+    let explanation = match refusal.number {
+        24 => shape(table),
+        1 => Explanation {
+            stands: "a table whose file would have more than 1000000 records".into(),
+            due: "fewer payments in one file".into(),
+            ..Explanation::default()
+        },
+        _ => {
+            let records = formed::records(table, refusal.record as usize);
+            let mut explanation = in_records(&records, refusal);
+            explanation.place = format!("{} of the file to be written", explanation.place);
+            let last = records.rchunks_exact(RECORD).next();
+            if last.is_some_and(|record| matches!(record[0], b'8' | b'9')) {
+                // The control's own text is not known here, only its type.
+                explanation.stands = String::new();
+                if refusal.number == 20 {
+                    explanation.due = format!("a sum of at most {}", spelled(999_999_999_999));
+                }
+            }
+            explanation
+        }
+    };
+    explanation.lines(name, refusal)
+}
+
+/// A refusal to alter: the file's own, or if it is in order that of the entry or the amount.
+pub fn of_alteration(
+    name: &str,
+    file: &[u8],
+    refusal: Refusal,
+    entry: &Written,
+    amount: &Written,
+) -> String {
+    if ach::check(file).is_err() {
+        return of_file(name, file, refusal);
+    }
+    let explanation = match refusal.number {
+        25 => no_entry(file, entry),
+        14 => {
+            let mut explanation = in_records(file, refusal);
+            explanation.stands += &format!("; asked for is {}", amount.text);
+            explanation
+        }
+        20 => Explanation {
+            place: in_records(file, refusal).place,
+            stands: format!("with {} for entry {} the sum is too large", amount.text, entry.text),
+            due: format!("a sum of at most {}", spelled(999_999_999_999)),
+        },
+        _ => return of_file(name, file, refusal),
+    };
+    explanation.lines(name, refusal)
+}
+
+/// A refusal to give an entry's addendum.
+pub fn of_addendum(name: &str, file: &[u8], refusal: Refusal, entry: &Written) -> String {
+    match refusal.number {
+        25 => no_entry(file, entry).lines(name, refusal),
+        _ => of_file(name, file, refusal),
+    }
+}
+
+fn no_entry(file: &[u8], entry: &Written) -> Explanation {
+    let entries = ach::check(file).map_or(0, |held| held.entries);
+    Explanation {
+        stands: format!("entry {}", entry.text),
+        due: format!("an entry from 1 to {entries}"),
+        ..Explanation::default()
+    }
+}
+
+fn due_length() -> String {
+    let most = ach::LONGEST_FILE;
+    format!("a multiple of 94 bytes, from 94 to {most}: records back to back, no line ends")
+}
+
+fn length(file: &[u8]) -> Explanation {
+    let line_ends = file.iter().filter(|byte| **byte == b'\n').count();
+    let mut stands = match file.len() {
+        0 => "nothing: the file is empty".to_string(),
+        length => {
+            format!("{length} bytes: {} records and {} bytes", length / RECORD, length % RECORD)
+        }
+    };
+    if line_ends > 0 {
+        stands += &format!("; there are {line_ends} line ends among them");
+    }
+    Explanation { stands, due: due_length(), ..Explanation::default() }
+}
+
+fn shape(table: &[u8]) -> Explanation {
+    let mut explanation = Explanation {
+        stands: format!("{} bytes", table.len()),
+        due: "a count of six digits before each section: header (1), batches, entries, addenda"
+            .into(),
+        ..Explanation::default()
+    };
+    if let Some(sections) = formed::Sections::of(table) {
+        let batches = sections.batches().count();
+        let in_batches: usize = sections.batches().map(|batch| batch.entries).sum();
+        let (entries, addenda) = (sections.entries.len() / 93, sections.addenda.len() / 80);
+        let flagged = sections.entries.chunks(93).filter(|row| row[77] == b'1').count();
+        explanation.stands = format!(
+            "{} bytes, {batches} batches with {in_batches} entries, {entries} entries with \
+             {flagged} addenda, {addenda} addenda",
+            table.len()
+        );
+        let due = 109 + 95 * batches + 93 * entries + 80 * addenda;
+        explanation.due = format!("{due} bytes, digits for counts, and numbers that agree");
+    }
+    explanation
+}
+
+/// The refused field and what is before it; nothing if no field is named or it is not there.
+pub fn place_of(file: &[u8], refusal: Refusal) -> Option<Place<'_>> {
+    let start = (refusal.record as usize).checked_sub(1)?.checked_mul(RECORD)?;
+    let record = file.get(start..start + RECORD)?;
+    // A record that is none has a type all the same: what stands in its first column.
+    let known = record_type(record[0]).filter(|_| refusal.number != 3);
+    let field = known.unwrap_or(&RECORD_TYPES[0]).field(refusal.field)?;
+    Some(Place { before: &file[..start], record, field, number: refusal.number })
+}
+
+fn in_records(file: &[u8], refusal: Refusal) -> Explanation {
+    if let Some(place) = place_of(file, refusal) {
+        let Place { field, record, .. } = place;
+        return Explanation {
+            place: format!(
+                "{}, field {} {}, {}",
+                record_name(file, refusal),
+                refusal.field,
+                field.name,
+                columns(field.first, field.last)
+            ),
+            stands: plain_text(field.of(record)),
+            due: place.due().to_string(),
+        };
+    }
+    let before = (refusal.record as usize).saturating_sub(1);
+    let whole = file.get(before * RECORD..(before + 1) * RECORD);
+    let (stands, due) = match (refusal.number, whole) {
+        (2, _) => {
+            (format!("nothing: the file ends with record {before}"), next_types(file).to_string())
+        }
+        (4, Some(record)) => {
+            (plain_text(record), format!("nothing: the file is full with record {before}"))
+        }
+        (_, Some(record)) => (plain_text(record), "a filler of 94 nines".into()),
+        (_, None) => (String::new(), String::new()),
+    };
+    Explanation { place: format!("record {}", refusal.record), stands, due }
+}
+
+/// Such as "record 4, entry 2".
+fn record_name(file: &[u8], refusal: Refusal) -> String {
+    let start = (refusal.record as usize - 1) * RECORD;
+    let digit = file[start];
+    let number = refusal.record;
+    if refusal.number == 3 {
+        return format!("record {number}");
+    }
+    let up_to = file[..start + RECORD].chunks_exact(RECORD);
+    let entries = up_to.filter(|record| record[0] == b'6').count();
+    let name = record_type(digit).map_or("", |known| known.name);
+    match digit {
+        b'6' => format!("record {number}, type 6 {name} {entries}"),
+        b'7' => format!("record {number}, type 7 {name} of entry {entries}"),
+        _ => format!("record {number}, type {} {name}", char::from(digit)),
+    }
+}
+
+pub fn columns(first: usize, last: usize) -> String {
+    if first == last {
+        format!("column {first}")
+    } else {
+        format!("columns {first}-{last}")
+    }
+}
+
+/// Bytes of a file, in quotes, with those made visible that are no text.
+pub fn plain_text(bytes: &[u8]) -> String {
+    let mut text = String::from("\"");
+    for &byte in bytes {
+        match byte {
+            b' '..=b'~' => text.push(char::from(byte)),
+            _ => text += &format!("\\x{byte:02X}"),
+        }
+    }
+    text + "\""
+}
+
+#[cfg(test)]
+mod tests {
+    use super::*;
+
+    #[test]
+    fn bytes_that_are_no_text_are_made_visible() {
+        assert_eq!(plain_text(b"A \x00\xFF~\n"), "\"A \\x00\\xFF~\\x0A\"");
+    }
+}

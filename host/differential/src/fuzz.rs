@@ -1,0 +1,296 @@
+//! Random and damaged bytes to all five functions of the boundary for as long as asked: each
+//! against the independent implementation, in memory between guards, and against one another.
+
+use crate::tally::{Outcome, Tally, PATTERN};
+use crate::Run;
+use ach::boundary::{ach_addendum, ach_alter, ach_check, ach_read, ach_write};
+use ach::{Refusal, ACCEPTANCE_LENGTH};
+use generate::damage::{random_damage, resealed, BORDER_BYTES};
+use generate::tables::{random_row_damage, shape_damage};
+use generate::{near_limit, plan, Plan, Random, RECORD};
+use std::time::{Duration, Instant};
+
+pub fn compare(run: &Run, tally: &mut Tally) {
+    let end = Instant::now() + Duration::from_secs(run.seconds);
+    let mut random = Random::new(run.seed);
+    while Instant::now() < end {
+        let bytes = input(&mut random);
+        for question in questions(&mut random, &bytes) {
+            ask(tally, question, &bytes);
+        }
+        relations(tally, &mut random, &bytes);
+    }
+}
+
+/// A call of the boundary with all that it is given beside the bytes.
+#[derive(Clone, Copy, Debug)]
+enum Question {
+    Check,
+    Read { room: usize },
+    Write { room: usize },
+    Alter { entry: u64, amount: u64 },
+    Addendum { entry: u64 },
+}
+
+/// All five, with rooms and numbers around the edges.
+fn questions(random: &mut Random, bytes: &[u8]) -> [Question; 5] {
+    let entry = entry(random, bytes);
+    [
+        Question::Check,
+        Question::Read { room: room(random, independent::read(bytes)) },
+        Question::Write { room: room(random, independent::write(bytes)) },
+        Question::Alter { entry, amount: amount(random) },
+        Question::Addendum { entry },
+    ]
+}
+
+fn room<E>(random: &mut Random, result: Result<Vec<u8>, E>) -> usize {
+    let need = result.map_or(0, |bytes| bytes.len());
+    match random.below(5) {
+        0 => 0,
+        1 => need.saturating_sub(1),
+        2 => need,
+        3 => random.below(2 * need + 2),
+        _ => need + random.below(200),
+    }
+}
+
+fn entry(random: &mut Random, bytes: &[u8]) -> u64 {
+    match random.below(8) {
+        0 => *random.pick(&[0, 1 << 32, 1 << 63, u64::MAX]),
+        1 => random.draw(),
+        _ => random.below(bytes.len() / RECORD + 2) as u64,
+    }
+}
+
+fn amount(random: &mut Random) -> u64 {
+    match random.below(4) {
+        0 => *random.pick(&[0, 1, 9_999_999_999, 10_000_000_000, 1 << 32, u64::MAX]),
+        1 => random.draw(),
+        _ => random.between(1, 9_999_999_999),
+    }
+}
+
+/// A file or a table in order, one that was damaged, or bytes that were never either.
+fn input(random: &mut Random) -> Vec<u8> {
+    let plan = any_plan(random);
+    match random.below(16) {
+        0 => noise(random),
+        1 => spliced(random, &plan.file()),
+        2 => flipped(random, &plan.file()),
+        3 => flipped(random, &plan.table()),
+        4 => random.pick(&shape_damage(&plan.table())).clone(),
+        5 | 6 => plan.table(),
+        7 | 8 => random_row_damage(random, &plan.table()),
+        9..=11 => plan.file(),
+        _ => damaged(random, plan.file()),
+    }
+}
+
+fn any_plan(random: &mut Random) -> Plan {
+    match random.below(40) {
+        0 => near_limit(22, random.between(999_999_999_990, 1_000_000_000_009), 2),
+        1 => near_limit(37, random.between(999_999_999_990, 1_000_000_000_009), 1),
+        2 => plan(random, 20, 30),
+        _ => plan(random, 3, 5),
+    }
+}
+
+fn damaged(random: &mut Random, mut file: Vec<u8>) -> Vec<u8> {
+    for _ in 0..1 + random.below(3) {
+        file = random_damage(random, &file);
+    }
+    if random.one_in(2) {
+        file = resealed(&file);
+    }
+    file
+}
+
+/// Bytes at random, all of them or those on the borders, in any length or in whole records.
+fn noise(random: &mut Random) -> Vec<u8> {
+    let length = if random.one_in(2) { RECORD * random.below(21) } else { random.below(2_000) };
+    let any = random.one_in(2);
+    (0..length).map(|_| if any { random.byte() } else { *random.pick(&BORDER_BYTES) }).collect()
+}
+
+/// The front of one file and the back of another.
+fn spliced(random: &mut Random, file: &[u8]) -> Vec<u8> {
+    let other = plan(random, 3, 5).file();
+    let (front, back) = (random.below(file.len() + 1), random.below(other.len() + 1));
+    let unit = if random.one_in(2) { RECORD } else { 1 };
+    [&file[..front / unit * unit], &other[back / unit * unit..]].concat()
+}
+
+fn flipped(random: &mut Random, bytes: &[u8]) -> Vec<u8> {
+    let mut changed = bytes.to_vec();
+    for _ in 0..1 + random.below(4) {
+        changed[random.below(bytes.len())] ^= 1 << random.below(8);
+    }
+    changed
+}
+
+const GUARD: usize = 128;
+
+/// Bytes between two stretches of memory that nobody may write to.
+struct Guarded {
+    memory: Vec<u8>,
+    guard: u8,
+}
+
+impl Guarded {
+    fn new(bytes: &[u8], guard: u8) -> Self {
+        let around = [guard; GUARD];
+        Guarded { memory: [&around, bytes, &around].concat(), guard }
+    }
+
+    fn pointer(&mut self) -> *mut u8 {
+        self.bytes_mut().as_mut_ptr()
+    }
+
+    fn bytes_mut(&mut self) -> &mut [u8] {
+        let end = self.memory.len() - GUARD;
+        &mut self.memory[GUARD..end]
+    }
+
+    fn bytes(&self) -> &[u8] {
+        &self.memory[GUARD..self.memory.len() - GUARD]
+    }
+
+    fn is_whole(&self) -> bool {
+        let (front, back) = (&self.memory[..GUARD], &self.memory[self.memory.len() - GUARD..]);
+        front.iter().chain(back).all(|byte| *byte == self.guard)
+    }
+}
+
+/// What a room holds before it is lent.
+const EMPTY: u8 = 0xA5;
+const NUMBERS: usize = ACCEPTANCE_LENGTH;
+
+/// Puts a question to both sides, twice: what lies around the lent memory must not matter.
+fn ask(tally: &mut Tally, question: Question, bytes: &[u8]) {
+    let about = format!("{question:?}");
+    let (answer, numbers, memory) = expected(question, bytes);
+    for guard in [b'9', 0x5A] {
+        let mut lent = Guarded::new(bytes, guard);
+        let mut room = Guarded::new(&vec![EMPTY; room_of(question)], guard);
+        let (given, given_numbers) = put(question, &mut lent, &mut room);
+        let written = match question {
+            Question::Alter { .. } => lent.bytes(),
+            _ => room.bytes(),
+        };
+        let given = Outcome { answer: given, numbers: given_numbers, memory: written };
+        tally.compare(&about, bytes, given, Outcome { answer, numbers, memory: &memory });
+        let whole = lent.is_whole() && room.is_whole();
+        let kept = matches!(question, Question::Alter { .. }) || lent.bytes() == bytes;
+        tally.holds(&format!("{about}: only lent memory is written to"), bytes, whole && kept);
+    }
+}
+
+fn room_of(question: Question) -> usize {
+    match question {
+        Question::Read { room } | Question::Write { room } => room,
+        _ => 0,
+    }
+}
+
+/// The boundary's answer and the numbers that it leaves.
+fn put(question: Question, lent: &mut Guarded, room: &mut Guarded) -> (u64, [u64; NUMBERS]) {
+    let (file, length) = (lent.pointer(), lent.bytes().len());
+    let (space, size) = (room.pointer(), room.bytes().len());
+    let mut numbers = [PATTERN; NUMBERS];
+    let [first, second, ..] = &mut numbers;
+    // SAFETY: the pointers are to as many bytes and numbers as the calls are told, and apart.
+    let answer = unsafe {
+        match question {
+            Question::Check => ach_check(file, length, numbers.as_mut_ptr()),
+            Question::Read { .. } => ach_read(file, length, space, size, first),
+            Question::Write { .. } => ach_write(file, length, space, size, first),
+            Question::Addendum { entry } => ach_addendum(file, length, entry, first, second),
+            Question::Alter { entry, amount } => {
+                let mut difference = PATTERN as i64;
+                let answer = ach_alter(file, length, entry, amount, &mut difference);
+                *first = difference as u64;
+                answer
+            }
+        }
+    };
+    (answer, numbers)
+}
+
+type Expected = (u64, [u64; NUMBERS], Vec<u8>);
+
+/// What the independent implementation makes of the question.
+fn expected(question: Question, bytes: &[u8]) -> Expected {
+    let mut numbers = [PATTERN; NUMBERS];
+    let mut memory = vec![EMPTY; room_of(question)];
+    let outcome = match question {
+        Question::Check => independent::check(bytes).map(|held| {
+            numbers = numbers_of(&held);
+        }),
+        Question::Read { .. } => independent::read_into(bytes, &mut memory).map(|length| {
+            numbers[0] = length as u64;
+        }),
+        Question::Write { .. } => independent::write_into(bytes, &mut memory).map(|length| {
+            numbers[0] = length as u64;
+        }),
+        Question::Alter { entry, amount } => {
+            memory = bytes.to_vec();
+            independent::alter(&mut memory, entry, amount).map(|difference| {
+                numbers[0] = difference as u64;
+            })
+        }
+        Question::Addendum { entry } => {
+            independent::addendum(bytes, entry).map(|(start, length)| {
+                numbers[..2].copy_from_slice(&[start as u64, length as u64]);
+            })
+        }
+    };
+    (outcome.map_or_else(crate::tally::answer, |()| 0), numbers, memory)
+}
+
+fn numbers_of(held: &independent::Acceptance) -> [u64; NUMBERS] {
+    let mut numbers = [0; NUMBERS];
+    let first = [held.batches, held.entries, held.addenda, held.debit, held.credit];
+    numbers[..5].copy_from_slice(&first);
+    numbers[5..].copy_from_slice(&held.by_code);
+    numbers
+}
+
+/// What the functions say of the same bytes has to fit together.
+fn relations(tally: &mut Tally, random: &mut Random, bytes: &[u8]) {
+    match ach::check(bytes) {
+        Ok(_) => {
+            let again = ach::table_of(bytes).and_then(|table| ach::file_of(&table));
+            tally.holds("read and written again", bytes, again.as_deref() == Ok(bytes));
+            let (entry, amount) = (entry(random, bytes), amount(random));
+            tally.holds("altered", bytes, alteration_fits(bytes, entry, amount));
+        }
+        Err(refusal) => tally.holds("refused alike", bytes, refused_alike(bytes, refusal)),
+    }
+    if let Ok(file) = ach::file_of(bytes) {
+        let fits = ach::check(&file).is_ok() && ach::table_of(&file).as_deref() == Ok(bytes);
+        tally.holds("written and read again", bytes, fits);
+    }
+}
+
+fn refused_alike(bytes: &[u8], refusal: Refusal) -> bool {
+    let mut lent = bytes.to_vec();
+    ach::table_of(bytes) == Err(refusal)
+        && ach::alter(&mut lent, 1, 1) == Err(refusal)
+        && ach::addendum(bytes, 1) == Err(refusal)
+        && lent == bytes
+}
+
+/// Altered, a file is accepted, its totals differ by what was said, and it can be altered back.
+fn alteration_fits(bytes: &[u8], entry: u64, amount: u64) -> bool {
+    let mut file = bytes.to_vec();
+    let Ok(difference) = ach::alter(&mut file, entry, amount) else {
+        return file == bytes;
+    };
+    let (Ok(before), Ok(after)) = (ach::check(bytes), ach::check(&file)) else {
+        return false;
+    };
+    let money = |held: ach::Acceptance| held.credit as i64 + held.debit as i64;
+    let back = ach::alter(&mut file, entry, (amount as i64 - difference) as u64);
+    money(after) - money(before) == difference && back == Ok(-difference) && file == bytes
+}

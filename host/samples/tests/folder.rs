@@ -1,0 +1,95 @@
+//! The folder holds what it should, and the independent implementation says what the index says.
+
+use std::collections::BTreeSet;
+use std::fs;
+use std::path::Path;
+
+const FOLDER: &str = concat!(env!("CARGO_MANIFEST_DIR"), "/../../samples");
+
+fn content(name: &str) -> Vec<u8> {
+    fs::read(Path::new(FOLDER).join(name)).unwrap_or_else(|error| panic!("{name}: {error}"))
+}
+
+fn names_in(folder: &str) -> BTreeSet<String> {
+    let entries = fs::read_dir(Path::new(FOLDER).join(folder)).unwrap();
+    let names = entries.map(|entry| entry.unwrap().file_name().into_string().unwrap());
+    names.map(|name| format!("{folder}{name}")).collect()
+}
+
+#[test]
+fn the_files_are_as_they_were_made() {
+    for sample in samples::all() {
+        assert!(content(&sample.name) == sample.bytes, "{}", sample.name);
+    }
+}
+
+#[test]
+fn every_file_is_known() {
+    let mut there = names_in("");
+    there.extend(names_in("refused/"));
+    for other in ["README.md", "index", "refused"] {
+        assert!(there.remove(other), "{other}");
+    }
+    let made: BTreeSet<String> = samples::all().into_iter().map(|sample| sample.name).collect();
+    assert_eq!(there, made);
+    let checked: BTreeSet<String> =
+        made.into_iter().filter(|name| name.ends_with(".ach")).collect();
+    let listed: BTreeSet<String> =
+        samples::index().into_iter().map(|(name, _)| name.to_string()).collect();
+    assert_eq!(checked, listed);
+}
+
+#[test]
+fn every_file_has_its_line() {
+    for (name, line) in samples::index() {
+        let said = independent::line(&independent::check(&content(name)));
+        assert_eq!(said, line, "{name}");
+        assert_eq!(line.starts_with("NO "), name.starts_with("refused/"), "{name}");
+    }
+}
+
+fn entries(file: &[u8]) -> Vec<&[u8]> {
+    file.chunks(94).filter(|record| record[0] == b'6').collect()
+}
+
+/// Whoever earns exactly 2,000.00 is in the file, and so are those just below and just above.
+#[test]
+fn all_eleven_are_in_the_file() {
+    let file = content("eleven.ach");
+    let paid: Vec<&[u8]> = entries(&file).iter().map(|entry| &entry[29..39]).collect();
+    let count = |amount: &[u8]| paid.iter().filter(|paid| **paid == amount).count();
+    assert_eq!(paid.len(), 30);
+    assert_eq!(count(b"0000200000"), 11);
+    assert_eq!(paid.iter().filter(|paid| **paid < b"0000200000").count(), 10);
+    assert_eq!(paid.iter().filter(|paid| **paid > b"0000200000").count(), 9);
+    assert_eq!((count(b"0000199999"), count(b"0000200001")), (1, 1));
+
+    let table = content("eleven.table");
+    let rows = &table[6 + 85 + 6 + 2 * 95 + 6..][..30 * 93];
+    let in_table = rows.chunks(93).filter(|row| &row[28..38] == b"0000200000").count();
+    assert_eq!(in_table, 11);
+}
+
+/// Two of the eleven differ in their trace number alone.
+#[test]
+fn equal_entries_are_two() {
+    let file = content("eleven.ach");
+    let entries = entries(&file);
+    assert_eq!(entries[27][..79], entries[29][..79]);
+    assert_ne!(entries[27], entries[29]);
+}
+
+/// What the documents print, where they print what is right.
+#[test]
+fn hashes_are_those_of_the_documents() {
+    for (name, hash) in
+        [("pension.ach", "0026500105"), ("loans.ach", "0112345251"), ("taxes.ach", "0064414076")]
+    {
+        let file = content(name);
+        let control = file.chunks(94).find(|record| record[0] == b'8').unwrap();
+        assert_eq!(&control[10..20], hash.as_bytes(), "{name}");
+    }
+    let file = content("loans.ach");
+    let control = file.chunks(94).find(|record| record[0] == b'8').unwrap();
+    assert_eq!(&control[4..54], b"00001201123452510000000000000000004600009453233319");
+}
