@@ -14,14 +14,23 @@ use Rattle.layout.specs.declared.Fault.{Fault}
 use Rattle.layout.specs.declared.Checked.{Checked}
 use Rattle.layout.specs.declared.Line.{Line}
 use Rattle.layout.specs.Fields.{rowsOf, firstField}
+use Rattle.rules.specs.declared.Sums.{Sums}
+use Rattle.records.specs.declared.Place.{Place}
 use Rattle.records.specs.declared.State.{State}
 use Rattle.records.specs.declared.Verdict.{Verdict}
-use Rattle.records.specs.Tally.{tally, start}
+use Rattle.records.specs.Tally.{nextHeader, tally, start}
 use Rattle.records.specs.Run.{fieldsFrom, lineOf, runFrom, finished, refused, checkedOf}
 
 and-false : (b : Bool) → b && false ≡ false
 and-false true = refl
 and-false false = refl
+
+-- the state that the walk keeps in parts
+abbrev pub state : Place → Sums → List ℕ → List ℕ → State
+state place sums header bycode = record { place = place; sums = sums; header = header; bycode = bycode }
+
+pub state-path : {p p′ : Place} {s s′ : Sums} {h h′ b b′ : List ℕ} → p ≡ p′ → s ≡ s′ → h ≡ h′ → b ≡ b′ → state p s h b ≡ state p′ s′ h′ b′
+state-path e f g k i = record { place = e i; sums = f i; header = g i; bycode = k i }
 
 -- the check of what stands from byte `at` on
 abbrev pub left : List ℕ → State → ℕ → Checked
@@ -82,13 +91,13 @@ pub record-long : (f : List ℕ) (at : ℕ) → at + 94 ≤ length f → length 
 record-long f at h = simp (length-take, length-drop) (omega arith)
 
 -- the kept record 5 stays 94 bytes long
-pub tally-header : (st : State) (line : Line) (r : List ℕ) → length (st .header) ≡ 94 → length r ≡ 94 → length (tally st line r .header) ≡ 94
-tally-header st Line.FileHeader r h e = h
-tally-header st Line.BatchHeader r h e = simp length-take (omega arith)
-tally-header st Line.Entry r h e = h
-tally-header st Line.Addendum r h e = h
-tally-header st Line.BatchControl r h e = h
-tally-header st Line.FileControl r h e = h
-tally-header st Line.Filler r h e = h
-tally-header st Line.Past r h e = h
-tally-header st Line.Other r h e = h
+pub header-long : (h : List ℕ) (line : Line) (r : List ℕ) → length h ≡ 94 → length r ≡ 94 → length (nextHeader h line r) ≡ 94
+header-long h Line.FileHeader r e f = e
+header-long h Line.BatchHeader r e f = simp length-take (omega arith)
+header-long h Line.Entry r e f = e
+header-long h Line.Addendum r e f = e
+header-long h Line.BatchControl r e f = e
+header-long h Line.FileControl r e f = e
+header-long h Line.Filler r e f = e
+header-long h Line.Past r e f = e
+header-long h Line.Other r e f = e

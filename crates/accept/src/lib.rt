@@ -10,6 +10,7 @@ use records::quick;
 use records::tally;
 use rules::Mark;
 use rules::field;
+use rules::near;
 ghost use Prim.Native.Nat.{_+_, _<_};
 ghost use mathlib.Core.Path.{_≡_};
 ghost use Rattle.records.specs.Run.{refused, finished, checkedOf};
@@ -70,21 +71,28 @@ pub fn check(file: &[u8]) -> Checked
         return refused(Fault::Length, 0, 0);
     }
     let mut out = refused(Fault::Length, 0, 0);
-    let mut st = tally::start();
+    let st = tally::start();
+    let mut place = st.place;
+    let mut sums = st.sums;
+    let mut header = st.header;
+    let mut bycode = st.bycode;
     let mut at = 0;
     'records: loop {
         if at == size {
-            out = finished(st);
+            out = finished(State {
+                place,
+                sums,
+                header,
+                bycode,
+            });
             break 'records;
         }
         let rec = &file[at..at + 94];
-        let place = st.place;
-        let sums = st.sums;
-        let header = st.header;
         let line = order::line_at(place, sums.records, rec[0]);
+        let said = near::said(rec);
         let count = layout::rows_in(line);
         let mut number = layout::first_field(line);
-        let mut k = quick::walk_from(line, sums, &header, rec);
+        let mut k = quick::walk_from(line, sums, &header, said, rec);
         while k < count {
             if let Mark::Wrong(fault) = field::field(line, k, sums, &header, rec) {
                 out = refused(fault, sums.records + 1, number);
@@ -93,7 +101,10 @@ pub fn check(file: &[u8]) -> Checked
             number += 1;
             k += 1;
         }
-        st = tally::tally(st, line, rec);
+        tally::count_in_row(&mut bycode, line, said);
+        place = order::next_place(place, line, rec);
+        sums = tally::next_sums(sums, line, said, rec);
+        header = tally::next_header(header, line, rec);
         at += 94;
     }
     out

@@ -7,7 +7,7 @@ use native.Mathlib.Omega.{arith}
 use mathlib.Core.Path.{_≡_, refl, sym, ap, _∙_}
 use mathlib.Core.List.{List, [], _∷_, append-nil}
 use native.Mathlib.Nat.{zero-add}
-use lib.ListN.{length, getD, set, replicate, take, drop, length-take, drop-of-length-le}
+use lib.ListN.{length, getD, set, replicate, take, drop, length-take, length-set, drop-of-length-le}
 use lib.Seq.{sets, sets-eq, drop-length, drop-cons, getD-set-other}
 use lib.Dec.{lit<, lit≤}
 use Rattle.text.specs.Decimal.{value}
@@ -21,8 +21,10 @@ use Rattle.rules.specs.Field.{fieldOf}
 use Rattle.records.specs.declared.Verdict.{Verdict}
 use Rattle.records.specs.Run.{fieldsFrom}
 use Rattle.rules.specs.declared.Sums.{Sums}
+use Rattle.rules.specs.declared.Said.{Said}
 use Rattle.rules.specs.declared.Code.{Code}
 use Rattle.rules.specs.Codes.{debitPart, creditPart}
+use Rattle.rules.specs.Quick.{saidOf}
 use Rattle.rules.specs.Small.{Small}
 use Rattle.records.specs.Fair.{SmallRows, Fair}
 use Rattle.records.specs.Tally.{entered, addBatch, addToRow, nextSums, start}
@@ -32,6 +34,13 @@ pub digits-small : (n : ℕ) (xs : List ℕ) → value (take n xs) < 10 ^ n
 digits-small n xs =
     let short : length (take n xs) ≤ n = simp length-take (omega arith) in
     lt-of-lt-of-le (value-lt (take n xs)) (pow-le-pow-right (lit< tt) short)
+
+-- an entry's numbers are small
+pub said-small : (r : List ℕ) (said : Said) → said ≡ saidOf r
+    → (said .bank < 10000000000) × (said .amount < 10000000000) × (said .trace < 10000000000)
+said-small r said e =
+    rw e
+    (omega (arith, digits-small 8 (drop 3 r)), omega (arith, digits-small 10 (drop 29 r)), omega (arith, digits-small 7 (drop 8 (take 15 (drop 79 r)))))
 
 pub debit-le : (c : Code) (a : ℕ) → debitPart c a ≤ a
 debit-le Code.Unknown a = omega arith
@@ -100,6 +109,9 @@ rows-more rows k cents n h f =
     (getD (set rows (2 * k) (getD rows (2 * k) 0 + 1)) (2 * k + 1) 0 + cents) ((n + 1) * 10000000000)
     (omega (arith, f (2 * k + 1)))
     (set-le rows (2 * k) (getD rows (2 * k) 0 + 1) ((n + 1) * 10000000000) (omega (arith, f (2 * k))) (λ j. omega (arith, f j)))
+
+pub row-length : (rows : List ℕ) (k cents : ℕ) → length (addToRow rows k cents) ≡ length rows
+row-length rows k cents = simp length-set refl
 
 pub rows-kept : (rows : List ℕ) (n : ℕ) → SmallRows n rows → SmallRows (n + 1) rows
 rows-kept rows n f k = omega (arith, f k)

@@ -51,7 +51,7 @@ pub fn line_at(place: Place, n: u64, b: u8) -> Line
 }
 
 // Where the record after this one stands.
-pub(crate) fn next_place(place: Place, line: Line, rec: &[u8]) -> Place
+pub fn next_place(place: Place, line: Line, rec: &[u8]) -> Place
     requires { ⌜ length (now rec) ≡ 94 ⌝ }
     ensures { λ r. ⌜ r ≡ nextPlace place line (now (rec .entry)) ⌝ }
 {

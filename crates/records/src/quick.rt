@@ -1,5 +1,6 @@
 // Whether every field of a record is right, where the quick test knows its type; false says nothing.
 use layout::Line;
+use rules::Said;
 use rules::Sums;
 use rules::quick;
 ghost use mathlib.Core.Path.{_≡_};
@@ -7,20 +8,21 @@ ghost use mathlib.Core.Bool.{true};
 ghost use Prim.Native.Nat.{_≤_};
 ghost use lib.ListN.{length, drop};
 ghost use Rattle.layout.specs.Fields.{rowsOf, firstField};
+ghost use Rattle.rules.specs.Quick.{saidOf};
 ghost use Rattle.rules.specs.Small.{Small};
 ghost use Rattle.records.specs.declared.Verdict.{Verdict};
 ghost use Rattle.records.specs.Run.{fieldsFrom};
 
-pub fn passes(line: Line, sums: Sums, header: &[u8], rec: &[u8]) -> bool
-    requires { ⌜ (length (now header) ≡ 94) × (length (now rec) ≡ 94) × Small sums ⌝ }
+pub fn passes(line: Line, sums: Sums, header: &[u8], said: Said, rec: &[u8]) -> bool
+    requires { ⌜ (length (now header) ≡ 94) × (length (now rec) ≡ 94) × (said ≡ saidOf (now rec)) × Small sums ⌝ }
     ensures { λ r. ⌜ (r ≡ true → fieldsFrom (firstField line) (rowsOf line) sums (now (header .entry)) (now (rec .entry)) ≡ Verdict.Passed) ⌝ }
 {
     match line {
         Line::Entry => {
-            if !quick::entry_front(header, rec) {
+            if !quick::entry_front(header, said, rec) {
                 return false;
             }
-            quick::entry_back(sums, header, rec)
+            quick::entry_back(sums, header, said, rec)
         }
         Line::Addendum => quick::addendum_all(sums, rec),
         _ => false,
@@ -28,11 +30,11 @@ pub fn passes(line: Line, sums: Sums, header: &[u8], rec: &[u8]) -> bool
 }
 
 // Where the walk along the table starts: behind its last row where the quick test passes.
-pub fn walk_from(line: Line, sums: Sums, header: &[u8], rec: &[u8]) -> usize
-    requires { ⌜ (length (now header) ≡ 94) × (length (now rec) ≡ 94) × Small sums ⌝ }
+pub fn walk_from(line: Line, sums: Sums, header: &[u8], said: Said, rec: &[u8]) -> usize
+    requires { ⌜ (length (now header) ≡ 94) × (length (now rec) ≡ 94) × (said ≡ saidOf (now rec)) × Small sums ⌝ }
     ensures { λ r. ⌜ (r ≤ length (rowsOf line)) × (fieldsFrom (firstField line) (drop r (rowsOf line)) sums (now (header .entry)) (now (rec .entry)) ≡ fieldsFrom (firstField line) (rowsOf line) sums (now (header .entry)) (now (rec .entry))) ⌝ }
 {
-    if passes(line, sums, header, rec) {
+    if passes(line, sums, header, said, rec) {
         return layout::rows_in(line);
     }
     0

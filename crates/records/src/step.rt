@@ -3,11 +3,13 @@ use crate::State;
 use crate::Stepped;
 use crate::Verdict;
 use crate::order;
+use crate::quick;
 use crate::tally;
 use layout::Line;
 use rules::Mark;
 use rules::Sums;
 use rules::field;
+use rules::near;
 ghost use Prim.Native.Nat.{_+_, _<_};
 ghost use mathlib.Core.Path.{_≡_};
 ghost use lib.ListN.{length};
@@ -23,7 +25,7 @@ pub fn fields(line: Line, sums: Sums, header: &[u8], rec: &[u8]) -> Verdict
 {
     let count = layout::rows_in(line);
     let mut number = layout::first_field(line);
-    let mut k = 0;
+    let mut k = quick::walk_from(line, sums, header, near::said(rec), rec);
     while k < count {
         if let Mark::Wrong(fault) = field::field(line, k, sums, header, rec) {
             return Verdict::Failed(fault, number);

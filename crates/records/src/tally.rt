@@ -2,15 +2,19 @@
 use crate::State;
 use crate::order;
 use layout::Line;
+use rules::Said;
 use rules::Sums;
 use rules::codes;
 use rules::near;
 ghost use Prim.Native.Nat.{ℕ, _+_, _*_, _≤_, _<_};
 ghost use mathlib.Core.Path.{_≡_};
+ghost use mathlib.Core.List.{List};
 ghost use lib.ListN.{length, getD};
+ghost use Rattle.rules.specs.Codes.{codeOf, debitPart, creditPart};
+ghost use Rattle.rules.specs.Quick.{saidOf};
 ghost use Rattle.rules.specs.Small.{Small};
 ghost use Rattle.records.specs.Fair.{SmallRows, Fair};
-ghost use Rattle.records.specs.Tally.{addRecord, addBatch, entered, addEntry, addAddendum, nextSums, nextHeader, addToRow, nextByCode, start, tally};
+ghost use Rattle.records.specs.Tally.{addRecord, addBatch, entered, addAddendum, nextSums, nextHeader, addToRow, nextByCode, start, tally};
 
 fn add_record(sums: Sums) -> Sums
     requires { ⌜ Small sums × (sums .records < 1000000) ⌝ }
@@ -55,21 +59,14 @@ fn entered(sums: Sums, bank: u64, debit: u64, credit: u64, trace: u64) -> Sums
     s
 }
 
-fn add_entry(sums: Sums, rec: &[u8]) -> Sums
-    requires { ⌜ Small sums × (sums .records < 1000000) × (length (now rec) ≡ 94) ⌝ }
-    ensures { λ r. ⌜ (r ≡ addEntry sums (now (rec .entry))) × Small r ⌝ }
+fn add_entry(sums: Sums, said: Said) -> Sums
+    requires { ⌜ Small sums × (sums .records < 1000000) × (said .bank < 10000000000) × (said .amount < 10000000000) × (said .trace < 10000000000) ⌝ }
+    ensures { λ r. ⌜ (r ≡ entered sums (said .bank) (debitPart (codeOf (said .code)) (said .amount)) (creditPart (codeOf (said .code)) (said .amount)) (said .trace)) × Small r ⌝ }
 {
-    let code = codes::code_of(near::entry_code(rec));
-    let amount = near::entry_amount(rec);
-    let debit = codes::debit_part(code, amount);
-    let credit = codes::credit_part(code, amount);
-    entered(
-        sums,
-        near::entry_bank(rec),
-        debit,
-        credit,
-        near::entry_trace(rec),
-    )
+    let code = codes::code_of(said.code);
+    let debit = codes::debit_part(code, said.amount);
+    let credit = codes::credit_part(code, said.amount);
+    entered(sums, said.bank, debit, credit, said.trace)
 }
 
 fn add_addendum(sums: Sums) -> Sums
@@ -83,14 +80,14 @@ fn add_addendum(sums: Sums) -> Sums
     s
 }
 
-fn next_sums(sums: Sums, line: Line, rec: &[u8]) -> Sums
-    requires { ⌜ Small sums × (sums .records < 1000000) × (length (now rec) ≡ 94) ⌝ }
+pub fn next_sums(sums: Sums, line: Line, said: Said, rec: &[u8]) -> Sums
+    requires { ⌜ Small sums × (sums .records < 1000000) × (length (now rec) ≡ 94) × (said ≡ saidOf (now rec)) ⌝ }
     ensures { λ r. ⌜ (r ≡ nextSums sums line (now (rec .entry))) × Small r ⌝ }
 {
     match line {
         Line::FileHeader => add_record(sums),
         Line::BatchHeader => add_batch(sums, rec),
-        Line::Entry => add_entry(sums, rec),
+        Line::Entry => add_entry(sums, said),
         Line::Addendum => add_addendum(sums),
         Line::BatchControl => add_record(sums),
         Line::FileControl => add_record(sums),
@@ -110,7 +107,7 @@ fn kept(rec: &[u8]) -> [u8; 94]
     bytes
 }
 
-fn next_header(header: [u8; 94], line: Line, rec: &[u8]) -> [u8; 94]
+pub fn next_header(header: [u8; 94], line: Line, rec: &[u8]) -> [u8; 94]
     requires { ⌜ length (now rec) ≡ 94 ⌝ }
     ensures { λ r. ⌜ r ≡ nextHeader header line (now (rec .entry)) ⌝ }
 {
@@ -128,36 +125,30 @@ fn next_header(header: [u8; 94], line: Line, rec: &[u8]) -> [u8; 94]
 }
 
 // One entry more in row k, and its cents.
-fn add_to_row(rows: [u64; 16], k: usize, cents: u64) -> [u64; 16]
-    requires { ⌜ (k < 8) × (getD rows (2 * k) 0 ≤ 10000000000000000) × (getD rows (2 * k + 1) 0 ≤ 10000000000000000) × (cents < 10000000000) ⌝ }
-    ensures { λ r. ⌜ r ≡ addToRow rows k cents ⌝ }
+fn add_to_row(rows: &mut [u64], k: usize, cents: u64)
+    requires { ⌜ (length (now rows) ≡ 16) × (k < 8) × (getD (now rows) (2 * k) 0 ≤ 10000000000000000) × (getD (now rows) (2 * k + 1) 0 ≤ 10000000000000000) × (cents < 10000000000) ⌝ }
+    ensures { λ _. ⌜ now (rows .exit) ≡ addToRow (now (rows .entry)) k cents ⌝ }
 {
-    let mut next = rows;
     let count = 2 * k;
-    next[count] = next[count] + 1;
+    rows[count] = rows[count] + 1;
     let sum = count + 1;
-    next[sum] = next[sum] + cents;
-    next
+    rows[sum] = rows[sum] + cents;
 }
 
-fn next_bycode(rows: [u64; 16], line: Line, rec: &[u8]) -> [u64; 16]
-    requires { ⌜ SmallRows 1000000 rows × (length (now rec) ≡ 94) ⌝ }
-    ensures { λ r. ⌜ (r ≡ nextByCode rows line (now (rec .entry))) × ((n : ℕ) → SmallRows n rows → SmallRows (n + 1) r) ⌝ }
+pub fn count_in_row(rows: &mut [u64], line: Line, said: Said)
+    requires { ⌜ (length (now rows) ≡ 16) × SmallRows 1000000 (now rows) × (said .amount < 10000000000) ⌝ }
+    ensures { λ _. ⌜ (length (now (rows .exit)) ≡ 16) × ((n : ℕ) → SmallRows n (now (rows .entry)) → SmallRows (n + 1) (now (rows .exit))) × ((r : List ℕ) → said ≡ saidOf r → now (rows .exit) ≡ nextByCode (now (rows .entry)) line r) ⌝ }
 {
     match line {
-        Line::FileHeader => rows,
-        Line::BatchHeader => rows,
-        Line::Entry => add_to_row(
-            rows,
-            codes::code_row(near::entry_code(rec)),
-            near::entry_amount(rec),
-        ),
-        Line::Addendum => rows,
-        Line::BatchControl => rows,
-        Line::FileControl => rows,
-        Line::Filler => rows,
-        Line::Past => rows,
-        Line::Other => rows,
+        Line::Entry => add_to_row(rows, codes::code_row(said.code), said.amount),
+        Line::FileHeader => {}
+        Line::BatchHeader => {}
+        Line::Addendum => {}
+        Line::BatchControl => {}
+        Line::FileControl => {}
+        Line::Filler => {}
+        Line::Past => {}
+        Line::Other => {}
     }
 }
 
@@ -166,19 +157,20 @@ pub fn tally(st: State, line: Line, rec: &[u8]) -> State
     requires { ⌜ Fair st × (st .sums .records < 1000000) × (length (now rec) ≡ 94) ⌝ }
     ensures { λ r. ⌜ (r ≡ tally st line (now (rec .entry))) × Fair r × (r .sums .records ≡ st .sums .records + 1) ⌝ }
 {
+    let said = near::said(rec);
+    let mut bycode = st.bycode;
+    count_in_row(&mut bycode, line, said);
     let place = st.place;
     let sums = st.sums;
     let header = st.header;
-    let bycode = st.bycode;
     let next = order::next_place(place, line, rec);
-    let added = next_sums(sums, line, rec);
+    let added = next_sums(sums, line, said, rec);
     let kept = next_header(header, line, rec);
-    let rows = next_bycode(bycode, line, rec);
     State {
         place: next,
         sums: added,
         header: kept,
-        bycode: rows,
+        bycode,
     }
 }
 

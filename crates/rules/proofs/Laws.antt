@@ -11,7 +11,7 @@ use borrow.Author.Tests.{ne-eqb, leb-true}
 use lib.Dec.{eqb, leb}
 use lib.ListN.{length, getD, take, drop}
 use lib.Seq.{drop-cons}
-use Rattle.text.specs.Decimal.{pick, every, digitOf}
+use Rattle.text.specs.Decimal.{pick, every, digits, digitOf, value}
 use Rattle.text.specs.Same.{sameBytes}
 use Rattle.text.proofs.DecimalLaws.{and-both}
 use Rattle.layout.specs.declared.Fault.{Fault}
@@ -19,8 +19,9 @@ use Rattle.layout.specs.declared.Kind.{Kind}
 use Rattle.layout.specs.Fits.{kindFits}
 use Rattle.rules.specs.declared.Code.{Code}
 use Rattle.rules.specs.declared.Mark.{Mark}
-use Rattle.rules.specs.Field.{asBatchRule}
-use Rattle.rules.specs.Codes.{codeOf}
+use Rattle.rules.specs.Field.{asBatchRule, batchClass, codeRule}
+use Rattle.rules.specs.Codes.{codeOf, known, allowed}
+use Rattle.rules.specs.Quick.{isRight}
 use Rattle.rules.specs.Kinds.{need, weights, weighed, blank, unbroken}
 
 -- three digits under the weights 3, 7 and 1
@@ -42,41 +43,91 @@ weighed-groups (a ∷ b ∷ c ∷ d ∷ f ∷ g ∷ h ∷ []) e = absurd (omega 
 weighed-groups (a ∷ b ∷ c ∷ d ∷ f ∷ g ∷ h ∷ i ∷ []) e = omega arith
 weighed-groups (a ∷ b ∷ c ∷ d ∷ f ∷ g ∷ h ∷ i ∷ j ∷ s) e = absurd (omega arith)
 
--- what is left of `unbroken`, where a blank was seen or not
-abbrev pub unbrokenFrom : Bool → List ℕ → Bool
-unbrokenFrom seen bs = pick seen (blank bs) (unbroken bs)
+-- no blank stands just before another byte, in what follows a byte b
+unfoldable pub pairsFrom : ℕ → List ℕ → Bool
+pairsFrom b [] = true
+pairsFrom b (c ∷ cs) = (not (eqb b 32) || eqb c 32) && pairsFrom c cs
 
-turn : (all seen gap rest whole : Bool) (b : ℕ) (bs : List ℕ) → eqb b 32 ≡ gap
-    → (all && unbrokenFrom seen (b ∷ bs)) ≡ whole
-    → ((all && (gap || not seen)) && unbrokenFrom (seen || gap) bs) ≡ whole
-unfolding every unbroken
-turn true true true rest whole b bs g e = rw g at e
-turn true true false rest whole b bs g e = rw g at e
-turn true false true rest whole b bs g e = rw g at e
-turn true false false rest whole b bs g e = rw g at e
-turn false true true rest whole b bs g e = e
-turn false true false rest whole b bs g e = e
-turn false false true rest whole b bs g e = e
-turn false false false rest whole b bs g e = e
-
--- one more byte of the walk along an account
-pub unbroken-turn : (p : List ℕ) (i : ℕ) (all seen : Bool) → i < length p
-    → (all && unbrokenFrom seen (drop i p)) ≡ unbroken p
-    → ((all && (eqb (getD p i 0) 32 || not seen)) && unbrokenFrom (seen || eqb (getD p i 0) 32) (drop (i + 1) p)) ≡ unbroken p
-unbroken-turn p i all seen h e =
-    rw add-one
-    (turn all seen (eqb (getD p i 0) 32) true (unbroken p) (getD p i 0) (drop (suc i) p) refl (rw (drop-cons p i 0 h) at e))
-
-pub unbroken-end : (p : List ℕ) (i : ℕ) (all seen : Bool) → length p ≤ i
-    → (all && unbrokenFrom seen (drop i p)) ≡ unbroken p → all ≡ unbroken p
-unfolding every unbroken
-unbroken-end p i all seen h e = go all seen (rw (lib.ListN.drop-of-length-le p h) at e)
+pairs-blank : (b : ℕ) (bs : List ℕ) → eqb b 32 ≡ true → pairsFrom b bs ≡ blank bs
+unfolding pairsFrom every
+pairs-blank b [] g = refl
+pairs-blank b (c ∷ cs) g = rw g (go (eqb c 32) refl (pairs-blank c cs))
   where
-    go : (all seen : Bool) → (all && unbrokenFrom seen []) ≡ unbroken p → all ≡ unbroken p
-    go true true e = e
-    go true false e = e
-    go false true e = e
-    go false false e = e
+    go : (gap : Bool) → eqb c 32 ≡ gap → (eqb c 32 ≡ true → pairsFrom c cs ≡ blank cs) → (gap && pairsFrom c cs) ≡ (gap && blank cs)
+    go true e f = f e
+    go false e f = refl
+
+either : (gap : Bool) → true ≡ pick gap true true
+either true = refl
+either false = refl
+
+behind : (b c : ℕ) (cs : List ℕ) (gap : Bool) → eqb b 32 ≡ gap → pairsFrom c cs ≡ unbroken (c ∷ cs)
+    → pairsFrom b (c ∷ cs) ≡ pick gap (blank (c ∷ cs)) (unbroken (c ∷ cs))
+unfolding pairsFrom
+behind b c cs true e f = pairs-blank b (c ∷ cs) e
+behind b c cs false e f = rw e f
+
+pub pairs-unbroken : (b : ℕ) (bs : List ℕ) → pairsFrom b bs ≡ unbroken (b ∷ bs)
+unfolding pairsFrom unbroken every
+pairs-unbroken b [] = either (eqb b 32)
+pairs-unbroken b (c ∷ cs) = behind b c cs (eqb b 32) refl (pairs-unbroken c cs)
+
+-- the walk along an account's pairs: before the first, one more, and the end
+pub pairs-start : (p : List ℕ) → pairsFrom (getD p (1 - 1) 0) (drop 1 p) ≡ unbroken p
+unfolding pairsFrom unbroken
+pairs-start [] = refl
+pairs-start (b ∷ bs) = pairs-unbroken b bs
+
+regroup : (a b c d : Bool) → (a && (b && c)) ≡ d → ((a && b) && c) ≡ d
+regroup true b c d e = e
+regroup false b c d e = e
+
+pub pairs-turn : (p : List ℕ) (i : ℕ) (all : Bool) → i < length p
+    → (all && pairsFrom (getD p (i - 1) 0) (drop i p)) ≡ unbroken p
+    → ((all && (not (eqb (getD p (i - 1) 0) 32) || eqb (getD p i 0) 32)) && pairsFrom (getD p (i + 1 - 1) 0) (drop (i + 1) p)) ≡ unbroken p
+unfolding pairsFrom
+pairs-turn p i all h e =
+    let back : i + 1 - 1 ≡ i = omega arith in
+    rw (back, add-one i)
+    (regroup all (not (eqb (getD p (i - 1) 0) 32) || eqb (getD p i 0) 32) (pairsFrom (getD p i 0) (drop (suc i) p)) (unbroken p)
+    (rw (drop-cons p i 0 h) at e))
+
+pub pairs-end : (p : List ℕ) (i : ℕ) (all : Bool) → length p ≤ i
+    → (all && pairsFrom (getD p (i - 1) 0) (drop i p)) ≡ unbroken p → all ≡ unbroken p
+unfolding pairsFrom
+pairs-end p i all h e = go all (rw (lib.ListN.drop-of-length-le p h) at e)
+  where
+    go : (all : Bool) → (all && true) ≡ unbroken p → all ≡ unbroken p
+    go true e = e
+    go false e = e
+
+pub or-not-false : (b : Bool) → (b || not false) ≡ true
+or-not-false true = refl
+or-not-false false = refl
+
+-- rules with their tests gathered
+bit : (b : Bool) (fault : Fault) → b ≡ isRight (need b fault Mark.Right)
+bit true fault = refl
+bit false fault = refl
+
+pub two-tests : (a b : Bool) (f g : Fault) → (a && b) ≡ isRight (need a f (need b g Mark.Right))
+two-tests true b f g = bit b g
+two-tests false b f g = refl
+
+pub three-tests : (a b c : Bool) (f g : Fault) → (a && b && c) ≡ isRight (need a f (need (b && c) g Mark.Right))
+three-tests true b c f g = bit (b && c) g
+three-tests false b c f g = refl
+
+-- a code that may stand in the batch is known
+pub code-right : (h p : List ℕ) → (digits p && allowed (batchClass h) (codeOf (value p))) ≡ isRight (codeRule h p)
+code-right h p = go (digits p) (codeOf (value p))
+  where
+    go : (d : Bool) (c : Code)
+        → (d && allowed (batchClass h) c) ≡ isRight (need d Fault.Digits (need (known c) Fault.Value (need (allowed (batchClass h) c) Fault.Side Mark.Right)))
+    go false c = refl
+    go true Code.Unknown = refl
+    go true (Code.Credit u) = bit (allowed (batchClass h) (Code.Credit u)) Fault.Side
+    go true (Code.Debit u) = bit (allowed (batchClass h) (Code.Debit u)) Fault.Side
 
 -- a code that is none of the eight
 pub unknown : (n : ℕ) → ((n ≡ 22) ⊎ (n ≡ 32) → ⊥) → ((n ≡ 23) ⊎ (n ≡ 33) → ⊥) → ((n ≡ 27) ⊎ (n ≡ 37) → ⊥) → ((n ≡ 28) ⊎ (n ≡ 38) → ⊥) → Code.Unknown ≡ codeOf n

@@ -4,9 +4,14 @@ use mathlib.Core.Bool.{Bool, true, false, _&&_}
 use mathlib.Core.List.{List}
 use Rattle.layout.specs.Fields.{entry, addendum, part}
 use Rattle.rules.specs.declared.Mark.{Mark}
+use Rattle.rules.specs.declared.Said.{Said}
 use Rattle.rules.specs.declared.Sums.{Sums}
 use Rattle.rules.specs.Kinds.{fixed, optionalText, mandatoryText, bank, account, flag}
-use Rattle.rules.specs.Field.{codeRule, checkDigitRule, amountRule, traceRule, entryTraceRule}
+use Rattle.rules.specs.Field.{entryCode, entryBank, entryAmount, entryTrace, codeRule, checkDigitRule, amountRule, traceRule, entryTraceRule}
+
+-- an entry's numbers
+abbrev pub saidOf : List ℕ → Said
+saidOf r = record { code = entryCode r; bank = entryBank r; amount = entryAmount r; trace = entryTrace r }
 
 abbrev pub isRight : Mark → Bool
 isRight Mark.Right = true

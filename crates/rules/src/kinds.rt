@@ -91,13 +91,13 @@ pub(crate) fn optional_text(p: &[u8]) -> Mark
     if !all_text(p) {
         return Mark::Wrong(Fault::Text);
     }
+    if !leads(p) {
+        return Mark::Right;
+    }
     if blank(p) {
         return Mark::Right;
     }
-    if leads(p) {
-        return Mark::Wrong(Fault::Leading);
-    }
-    Mark::Right
+    Mark::Wrong(Fault::Leading)
 }
 
 pub(crate) fn mandatory_text(p: &[u8]) -> Mark

@@ -27,6 +27,14 @@ pub enum Code {
     Debit(Use),
 }
 
+// The numbers that an entry says, read once for its rules and for the sums.
+pub struct Said {
+    pub code: u64,
+    pub bank: u64,
+    pub amount: u64,
+    pub trace: u64,
+}
+
 // What is counted and summed over the records so far. Those of the batch start anew at each record 5.
 pub struct Sums {
     pub records: u64,

@@ -1,5 +1,6 @@
 // What records say by the fields' numbers, and the rules that look at another field or an earlier record.
 use crate::Mark;
+use crate::Said;
 use crate::Sums;
 use crate::codes;
 use crate::own;
@@ -10,6 +11,7 @@ ghost use mathlib.Core.Path.{_≡_};
 ghost use mathlib.Core.Bool.{true};
 ghost use lib.ListN.{length};
 ghost use Rattle.layout.specs.Fits.{nearFits};
+ghost use Rattle.rules.specs.Quick.{saidOf};
 ghost use Rattle.rules.specs.Field.{entryCode, entryBank, entryAmount, entryTrace, traceNumber, batchClass, batchNumber, codeRule, checkDigitRule, amountRule, traceFollows, traceRule, entryTraceRule, batchNumberRule, nearRule};
 
 pub fn entry_code(rec: &[u8]) -> u64
@@ -47,7 +49,20 @@ pub fn entry_trace(rec: &[u8]) -> u64
     trace_number(&rec[79..94])
 }
 
-fn batch_class(header: &[u8]) -> u64
+// Of a record that is no entry it says nothing of use.
+pub fn said(rec: &[u8]) -> Said
+    requires { ⌜ length (now rec) ≡ 94 ⌝ }
+    ensures { λ r. ⌜ r ≡ saidOf (now (rec .entry)) ⌝ }
+{
+    Said {
+        code: entry_code(rec),
+        bank: entry_bank(rec),
+        amount: entry_amount(rec),
+        trace: entry_trace(rec),
+    }
+}
+
+pub(crate) fn batch_class(header: &[u8]) -> u64
     requires { ⌜ length (now header) ≡ 94 ⌝ }
     ensures { λ r. ⌜ r ≡ batchClass (now (header .entry)) ⌝ }
 {
@@ -104,7 +119,7 @@ pub(crate) fn amount_rule(rec: &[u8], p: &[u8]) -> Mark
     Mark::Right
 }
 
-fn trace_follows(sums: Sums, n: u64) -> bool
+pub(crate) fn trace_follows(sums: Sums, n: u64) -> bool
     requires { ⌜ sums .trace < 10 ^ 18 ⌝ }
     ensures { λ r. ⌜ r ≡ traceFollows sums n ⌝ }
 {

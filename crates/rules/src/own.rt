@@ -153,12 +153,9 @@ fn unbroken(p: &[u8]) -> bool
     ensures { λ r. ⌜ r ≡ unbroken (now (p .entry)) ⌝ }
 {
     let mut all = true;
-    let mut seen = false;
-    let mut i = 0;
+    let mut i = 1;
     while i < p.len() {
-        let gap = p[i] == 32;
-        all = all & (gap | !seen);
-        seen = seen | gap;
+        all = all & ((p[i - 1] != 32) | (p[i] == 32));
         i += 1;
     }
     all

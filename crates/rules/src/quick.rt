@@ -1,14 +1,17 @@
 // Entries and addenda are nearly all of a large file: their fields tested in a straight line, with no table and no branch between them.
 // The walk along the table names the refusal where one of these says no.
 use crate::Mark;
+use crate::Said;
 use crate::Sums;
+use crate::codes;
 use crate::kinds;
 use crate::near;
 use crate::own;
 ghost use Prim.Native.Nat.{_<_, _^_};
 ghost use mathlib.Core.Path.{_≡_};
 ghost use lib.ListN.{length};
-ghost use Rattle.rules.specs.Quick.{isRight, entryFront, entryBack, addendumAll};
+ghost use Rattle.rules.specs.Field.{traceNumber, traceRule};
+ghost use Rattle.rules.specs.Quick.{saidOf, isRight, entryFront, entryBack, addendumAll};
 
 fn right(mark: Mark) -> bool
     ensures { λ r. ⌜ r ≡ isRight mark ⌝ }
@@ -20,28 +23,36 @@ fn right(mark: Mark) -> bool
 }
 
 // Fields 2 to 6 of an entry.
-pub fn entry_front(header: &[u8], rec: &[u8]) -> bool
-    requires { ⌜ (length (now header) ≡ 94) × (length (now rec) ≡ 94) ⌝ }
+pub fn entry_front(header: &[u8], said: Said, rec: &[u8]) -> bool
+    requires { ⌜ (length (now header) ≡ 94) × (length (now rec) ≡ 94) × (said ≡ saidOf (now rec)) ⌝ }
     ensures { λ r. ⌜ r ≡ entryFront (now (header .entry)) (now (rec .entry)) ⌝ }
 {
-    let code = right(near::code_rule(header, &rec[1..3]));
+    let code = codes::code_of(said.code);
+    let side = text::digits(&rec[1..3]) & codes::allowed(near::batch_class(header), code);
     let bank = right(own::bank(&rec[3..11]));
     let digit = right(near::check_digit_rule(rec, &rec[11..12]));
     let account = right(own::account(&rec[12..29]));
-    let amount = right(near::amount_rule(rec, &rec[29..39]));
-    code & bank & digit & account & amount
+    let amount = text::digits(&rec[29..39]) & codes::carries(code, said.amount);
+    side & bank & digit & account & amount
+}
+
+fn trace_right(sums: Sums, header: &[u8], n: u64, p: &[u8]) -> bool
+    requires { ⌜ (length (now header) ≡ 94) × (length (now p) ≡ 15) × (n ≡ traceNumber (now p)) × (sums .trace < 10 ^ 18) ⌝ }
+    ensures { λ r. ⌜ r ≡ isRight (traceRule sums (now (header .entry)) (now (p .entry))) ⌝ }
+{
+    text::digits(p) & text::same(&p[0..8], &header[79..87]) & near::trace_follows(sums, n)
 }
 
 // Fields 7 to 11 of an entry.
-pub fn entry_back(sums: Sums, header: &[u8], rec: &[u8]) -> bool
-    requires { ⌜ (length (now header) ≡ 94) × (length (now rec) ≡ 94) × (sums .trace < 10 ^ 18) ⌝ }
+pub fn entry_back(sums: Sums, header: &[u8], said: Said, rec: &[u8]) -> bool
+    requires { ⌜ (length (now header) ≡ 94) × (length (now rec) ≡ 94) × (said ≡ saidOf (now rec)) × (sums .trace < 10 ^ 18) ⌝ }
     ensures { λ r. ⌜ r ≡ entryBack sums (now (header .entry)) (now (rec .entry)) ⌝ }
 {
     let id = right(kinds::optional_text(&rec[39..54]));
     let name = right(kinds::mandatory_text(&rec[54..76]));
     let other = right(kinds::optional_text(&rec[76..78]));
     let flag = right(own::flag(&rec[78..79]));
-    let trace = right(near::trace_rule(sums, header, &rec[79..94]));
+    let trace = trace_right(sums, header, said.trace, &rec[79..94]);
     id & name & other & flag & trace
 }
 

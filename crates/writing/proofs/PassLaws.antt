@@ -25,7 +25,7 @@ use Rattle.records.specs.Order.{complete}
 use Rattle.records.specs.Tally.{start, noSums, addRecord, tally}
 use Rattle.records.specs.Run.{fieldsFrom, lineOf, stepped, recordOf, runFrom, refused, onward, checkedOf}
 use Rattle.records.proofs.Laws.{records-next}
-use Rattle.accept.proofs.Laws.{tally-header}
+use Rattle.accept.proofs.Laws.{header-long}
 use Rattle.view.specs.View.{Entry, sumOver, recordsIn, fileRecord, fileControlRecord, fillersAfter, fillerRecord, recordsOf, entriesOf, bodyOf}
 use Rattle.view.specs.Table.{batchPart, entryPart, addendumPart, countOf, rowsIn, addendaDue, entriesDue, withAddenda, withEntries, viewOfTable, everyRow, shaped, formed}
 use Rattle.view.proofs.Lists.{nil-of-length}
@@ -196,7 +196,7 @@ module _ (t : List ℕ) (c : Cursor) (st : State) (l : length (st .header) ≡ 9
       let form : todo t c st ≡ r ∷ todo t (pastOf t c (st .place)) (tally st line r) = u .form ∙ ap (λ x. r ∷ x) (o .0) in
       record {
         inside = o .1;
-        header = tally-header st line r l (u .long);
+        header = header-long (st .header) line r l (u .long);
         counted = records-next (st .sums) line r;
         fewer = let n = ap length form in omega arith;
         run =

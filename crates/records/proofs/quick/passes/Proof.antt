@@ -12,39 +12,39 @@ use Rattle.rules.proofs.quick.addendum_all.Reads as addendum-all-reads
 use Rattle.rules.proofs.quick.entry_back.Reads as entry-back-reads
 use Rattle.rules.proofs.quick.entry_front.Reads as entry-front-reads
 
--- src/quick.rt:19:17
+-- src/quick.rt:22:17
 enum-told : tie.Need-enum-told
 enum-told c = search needs
 
--- src/quick.rt:19:17
+-- src/quick.rt:22:17
 entry-front-requires : tie.Need-entry-front-requires
-entry-front-requires c κs = search needs
+entry-front-requires c κs = ((c .before .before .before .before .pre) .0, (c .before .before .before .before .pre) .1, (c .before .before .before .before .pre) .2)
 
--- src/quick.rt:20:17
+-- src/quick.rt:23:17
 returns : tie.Need-returns
 returns c = λ e. absurd (false≢true e)
 
--- src/quick.rt:22:13
+-- src/quick.rt:25:13
 entry-back-requires : tie.Need-entry-back-requires
-entry-back-requires c κs = ((c .before .before .before .before .before .before .pre) .0, (c .before .before .before .before .before .before .pre) .1, omega (arith, (c .before .before .before .before .before .before .pre) .2 .trace))
+entry-back-requires c κs = ((c .before .before .before .before .before .before .pre) .0, (c .before .before .before .before .before .before .pre) .1, (c .before .before .before .before .before .before .pre) .2, omega (arith, (c .before .before .before .before .before .before .pre) .3 .trace))
 
--- src/quick.rt:24:27
+-- src/quick.rt:27:27
 enum-told-2 : tie.Need-enum-told-2
 enum-told-2 c = search needs
 
--- src/quick.rt:24:27
+-- src/quick.rt:27:27
 addendum-all-requires : tie.Need-addendum-all-requires
 addendum-all-requires c κs = search needs
 
--- src/quick.rt:13:1
+-- src/quick.rt:16:1
 returns-2 : tie.Need-returns-2
 returns-2 c = λ e. rw ((c .before .before .before .enum-told) .given .1) (entry-passes ((c .before .before .before .before .before .before .before .args) .sums) ((c .before .before .before .before .before .before .before .args) .header .now) ((c .before .before .before .before .before .before .before .args) .rec .now) (sym ((c .before .before .entry-front) .ensures) ∙ not-false _ ((c .before .if1) .left)) (sym ((c .entry-back) .ensures) ∙ e))
 
--- src/quick.rt:13:1
+-- src/quick.rt:16:1
 returns-3 : tie.Need-returns-3
 returns-3 c = λ e. rw ((c .before .enum-told2) .given .1) (addendum-passes ((c .before .before .before .before .before .args) .sums) ((c .before .before .before .before .before .args) .header .now) ((c .before .before .before .before .before .args) .rec .now) (sym ((c .addendum-all) .ensures) ∙ e))
 
--- src/quick.rt:13:1
+-- src/quick.rt:16:1
 returns-4 : tie.Need-returns-4
 returns-4 c = λ e. absurd (false≢true e)
 

@@ -6,113 +6,109 @@ use Rattle.rules.proofs.quick.entry_back.Reads as reads
 use Rattle.rules.proofs.quick.entry_back.Lts as lts
 use Rattle.rules.proofs.kinds.mandatory_text.Reads as mandatory-text-reads
 use Rattle.rules.proofs.kinds.optional_text.Reads as optional-text-reads
-use Rattle.rules.proofs.near.trace_rule.Reads as trace-rule-reads
 use Rattle.rules.proofs.own.flag.Reads as flag-reads
 use Rattle.rules.proofs.quick.right.Reads as right-reads
+use Rattle.rules.proofs.quick.trace_right.Reads as trace-right-reads
 
--- src/quick.rt:40:41
+-- src/quick.rt:51:41
 sub-optional-text : tie.Need-sub-optional-text
 sub-optional-text c = search needs
 
--- src/quick.rt:40:41
+-- src/quick.rt:51:41
 part-optional-text-start : tie.Need-part-optional-text-start
 part-optional-text-start c = search needs
 
--- src/quick.rt:40:41
+-- src/quick.rt:51:41
 part-optional-text-end : tie.Need-part-optional-text-end
 part-optional-text-end c = search needs
 
--- src/quick.rt:40:20
+-- src/quick.rt:51:20
 optional-text-requires : tie.Need-optional-text-requires
 optional-text-requires c κs = search needs
 
--- src/quick.rt:40:9
+-- src/quick.rt:51:9
 right-requires : tie.Need-right-requires
 right-requires c κs = search needs
 
--- src/quick.rt:41:44
+-- src/quick.rt:52:44
 sub-mandatory-text : tie.Need-sub-mandatory-text
 sub-mandatory-text c = search needs
 
--- src/quick.rt:41:44
+-- src/quick.rt:52:44
 part-mandatory-text-start : tie.Need-part-mandatory-text-start
 part-mandatory-text-start c = search needs
 
--- src/quick.rt:41:44
+-- src/quick.rt:52:44
 part-mandatory-text-end : tie.Need-part-mandatory-text-end
 part-mandatory-text-end c = search needs
 
--- src/quick.rt:41:22
+-- src/quick.rt:52:22
 mandatory-text-requires : tie.Need-mandatory-text-requires
 mandatory-text-requires c κs = search needs
 
--- src/quick.rt:41:9
+-- src/quick.rt:52:9
 right-requires-2 : tie.Need-right-requires-2
 right-requires-2 c κs = search needs
 
--- src/quick.rt:42:44
+-- src/quick.rt:53:44
 sub-optional-text-2 : tie.Need-sub-optional-text-2
 sub-optional-text-2 c = search needs
 
--- src/quick.rt:42:44
+-- src/quick.rt:53:44
 part-optional-text-start-2 : tie.Need-part-optional-text-start-2
 part-optional-text-start-2 c = search needs
 
--- src/quick.rt:42:44
+-- src/quick.rt:53:44
 part-optional-text-end-2 : tie.Need-part-optional-text-end-2
 part-optional-text-end-2 c = search needs
 
--- src/quick.rt:42:23
+-- src/quick.rt:53:23
 optional-text-requires-2 : tie.Need-optional-text-requires-2
 optional-text-requires-2 c κs = search needs
 
--- src/quick.rt:42:9
+-- src/quick.rt:53:9
 right-requires-3 : tie.Need-right-requires-3
 right-requires-3 c κs = search needs
 
--- src/quick.rt:43:32
+-- src/quick.rt:54:32
 sub-flag : tie.Need-sub-flag
 sub-flag c = search needs
 
--- src/quick.rt:43:32
+-- src/quick.rt:54:32
 part-flag-start : tie.Need-part-flag-start
 part-flag-start c = search needs
 
--- src/quick.rt:43:32
+-- src/quick.rt:54:32
 part-flag-end : tie.Need-part-flag-end
 part-flag-end c = search needs
 
--- src/quick.rt:43:22
+-- src/quick.rt:54:22
 flag-requires : tie.Need-flag-requires
 flag-requires c κs = search needs
 
--- src/quick.rt:43:9
+-- src/quick.rt:54:9
 right-requires-4 : tie.Need-right-requires-4
 right-requires-4 c κs = search needs
 
--- src/quick.rt:44:54
-sub-trace-rule : tie.Need-sub-trace-rule
-sub-trace-rule c = search needs
+-- src/quick.rt:55:55
+sub-trace-right : tie.Need-sub-trace-right
+sub-trace-right c = search needs
 
--- src/quick.rt:44:54
-part-trace-rule-start : tie.Need-part-trace-rule-start
-part-trace-rule-start c = search needs
+-- src/quick.rt:55:55
+part-trace-right-start : tie.Need-part-trace-right-start
+part-trace-right-start c = search needs
 
--- src/quick.rt:44:54
-part-trace-rule-end : tie.Need-part-trace-rule-end
-part-trace-rule-end c = search needs
+-- src/quick.rt:55:55
+part-trace-right-end : tie.Need-part-trace-right-end
+part-trace-right-end c = search needs
 
--- src/quick.rt:44:23
-trace-rule-requires : tie.Need-trace-rule-requires
-trace-rule-requires c κs = search needs
+-- src/quick.rt:55:9
+trace-right-requires : tie.Need-trace-right-requires
+trace-right-requires c κs = ((c .before .before .before .before .before .before .before .before .before .before .before .before .before .before .before .pre) .0, search needs, rw ((c .before .before .before .before .before .before .before .before .before .before .before .before .before .before .before .pre) .2) refl, (c .before .before .before .before .before .before .before .before .before .before .before .before .before .before .before .pre) .3)
 
--- src/quick.rt:44:9
-right-requires-5 : tie.Need-right-requires-5
-right-requires-5 c κs = search needs
-
--- src/quick.rt:36:1
+-- src/quick.rt:47:1
 returns : tie.Need-returns
-returns c = rw ((c .before .before .before .before .before .before .before .before .before .before .before .before .right) .ensures, (c .before .before .before .before .before .before .before .before .before .before .before .before .before .optional-text) .ensures, (c .before .before .before .before .before .before .before .before .before .right2) .ensures, (c .before .before .before .before .before .before .before .before .before .before .mandatory-text) .ensures, (c .before .before .before .before .before .before .right3) .ensures, (c .before .before .before .before .before .before .before .optional-text2) .ensures, (c .before .before .before .right4) .ensures, (c .before .before .before .before .flag) .ensures, (c .right5) .ensures, (c .before .trace-rule) .ensures) refl
+returns c = rw ((c .before .before .before .before .before .before .before .before .before .before .before .right) .ensures, (c .before .before .before .before .before .before .before .before .before .before .before .before .optional-text) .ensures, (c .before .before .before .before .before .before .before .before .right2) .ensures, (c .before .before .before .before .before .before .before .before .before .mandatory-text) .ensures, (c .before .before .before .before .before .right3) .ensures, (c .before .before .before .before .before .before .optional-text2) .ensures, (c .before .before .right4) .ensures, (c .before .before .before .flag) .ensures, (c .trace-right) .ensures) refl
 
 pub entry-back-spec : {M : Type 1} → statement M
 entry-back-spec =
@@ -138,9 +134,8 @@ entry-back-spec =
     part-flag-end
     flag-requires
     right-requires-4
-    sub-trace-rule
-    part-trace-rule-start
-    part-trace-rule-end
-    trace-rule-requires
-    right-requires-5
+    sub-trace-right
+    part-trace-right-start
+    part-trace-right-end
+    trace-right-requires
     returns)
