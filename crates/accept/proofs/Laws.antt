@@ -1,25 +1,28 @@
 -- The walk along a file's records: what is left from a place on gives the whole answer.
 -- Assumes nothing.
-use Prim.Native.Nat.{ℕ, zero, suc, _+_, _-_, _*_, _/_, _%_, _<_, _≤_}
+use Prim.Native.Nat.{ℕ, _+_, _*_, _%_, _<_, _≤_}
 use native.Mathlib.Omega.{arith}
-use mathlib.Core.Path.{_≡_, refl, sym, ap, _∙_}
+use mathlib.Core.Path.{_≡_, refl}
 use mathlib.Core.Bool.{Bool, true, false, _&&_}
-use mathlib.Core.List.{List, [], _∷_}
-use borrow.Author.Tests.{lt-leb, le-leb, eq-eqb, ne-eqb}
+use mathlib.Core.List.{List, map}
+use borrow.Author.Tests.{leb-true, le-leb, lt-leb, eqb-true, eq-eqb, ne-eqb}
 use lib.Dec.{leb, eqb}
-use lib.ListN.{length, getD, take, drop, length-take, length-drop}
-use lib.Seq.{drop-drop}
-use Rattle.text.specs.Rows.{rows}
+use lib.ListN.{length, drop, length-take}
+use Rattle.text.specs.Same.{sameBytes}
+use Rattle.text.proofs.DecimalLaws.{and-both}
 use Rattle.layout.specs.declared.Fault.{Fault}
 use Rattle.layout.specs.declared.Checked.{Checked}
 use Rattle.layout.specs.declared.Line.{Line}
+use Rattle.layout.specs.declared.Way.{Way}
 use Rattle.layout.specs.Fields.{rowsOf, firstField}
+use Rattle.layout.specs.Ways.{endOf, recordBytes}
 use Rattle.rules.specs.declared.Sums.{Sums}
 use Rattle.records.specs.declared.Place.{Place}
 use Rattle.records.specs.declared.State.{State}
 use Rattle.records.specs.declared.Verdict.{Verdict}
 use Rattle.records.specs.Tally.{nextHeader, tally, start}
-use Rattle.records.specs.Run.{fieldsFrom, lineOf, runFrom, finished, refused, checkedOf}
+use Rattle.records.specs.Run.{fieldsFrom, lineOf, closing, pieceOf, runFrom, finished, refused, lengthFits, checkedOf}
+use Rattle.records.proofs.Ways.{rawFrom, rawAt, columnsAt, columns-of, raw-next, raw-end, raw-whole}
 
 and-false : (b : Bool) → b && false ≡ false
 and-false true = refl
@@ -33,62 +36,78 @@ pub state-path : {p p′ : Place} {s s′ : Sums} {h h′ b b′ : List ℕ} →
 state-path e f g k i = record { place = e i; sums = f i; header = g i; bycode = k i }
 
 -- the check of what stands from byte `at` on
-abbrev pub left : List ℕ → State → ℕ → Checked
-left f st at = runFrom st (rows 94 ((length f - at) / 94) (drop at f))
+abbrev pub left : Way → List ℕ → State → ℕ → Checked
+left way f st at = runFrom st (map (pieceOf way) (rawFrom way f at))
 
--- the record at byte `at`, as the code cuts it out
-abbrev pub recordAt : List ℕ → ℕ → List ℕ
-recordAt f at = take (at + 94 - at) (drop at f)
+-- a wrong field comes before the line end
+failed-stays : (b : Bool) (fault : Fault) (k : ℕ) → closing b (Verdict.Failed fault k) ≡ Verdict.Failed fault k
+failed-stays true fault k = refl
+failed-stays false fault k = refl
 
-next-rows : (f : List ℕ) (at : ℕ) → at + 94 ≤ length f
-    → rows 94 ((length f - at) / 94) (drop at f) ≡ recordAt f at ∷ rows 94 ((length f - (at + 94)) / 94) (drop (at + 94) f)
-unfolding rows
-next-rows f at h =
-    let more : (length f - at) / 94 ≡ suc ((length f - (at + 94)) / 94) = omega arith in
-    let wide : at + 94 - at ≡ 94 = omega arith in
-    rw (more, wide, drop-drop 94 at f) refl
-
-module _ (f : List ℕ) (st : State) (at : ℕ) (line : Line) (room : at + 94 ≤ length f) (e : line ≡ lineOf st (recordAt f at)) where
+module _ (way : Way) (f : List ℕ) (st : State) (at : ℕ) (line : Line) (room : at + recordBytes way ≤ length f) (e : line ≡ lineOf st (columnsAt f at)) where
   -- a record with a wrong field is the answer
-  pub run-stop : (fault : Fault) (k : ℕ) → fieldsFrom (firstField line) (rowsOf line) (st .sums) (st .header) (recordAt f at) ≡ Verdict.Failed fault k
-      → left f st at ≡ refused fault (st .sums .records + 1) k
+  pub run-stop : (fault : Fault) (k : ℕ) → fieldsFrom (firstField line) (rowsOf line) (st .sums) (st .header) (columnsAt f at) ≡ Verdict.Failed fault k
+      → left way f st at ≡ refused fault (st .sums .records + 1) k
   unfolding runFrom
-  run-stop fault k w = rw (next-rows f at room, ← e, w) refl
+  run-stop fault k w = rw (raw-next way f at room, columns-of way f at, ← e, w, failed-stays (sameBytes (drop 94 (rawAt way f at)) (endOf way)) fault k) refl
+
+  -- so is one whose line end is wrong
+  pub run-unclosed : fieldsFrom (firstField line) (rowsOf line) (st .sums) (st .header) (columnsAt f at) ≡ Verdict.Passed → pieceOf way (rawAt way f at) .closed ≡ false
+      → left way f st at ≡ refused Fault.LineEnd (st .sums .records + 1) 0
+  unfolding runFrom
+  run-unclosed w c = rw (raw-next way f at room, columns-of way f at, ← e, w, c) refl
 
   -- a record that passes leaves the rest
-  pub run-on : fieldsFrom (firstField line) (rowsOf line) (st .sums) (st .header) (recordAt f at) ≡ Verdict.Passed
-      → left f st at ≡ left f (tally st line (recordAt f at)) (at + 94)
+  pub run-on : fieldsFrom (firstField line) (rowsOf line) (st .sums) (st .header) (columnsAt f at) ≡ Verdict.Passed → pieceOf way (rawAt way f at) .closed ≡ true
+      → left way f st at ≡ left way f (tally st line (columnsAt f at)) (at + recordBytes way)
   unfolding runFrom
-  run-on w = rw (next-rows f at room, ← e, w) refl
+  run-on w c = rw (raw-next way f at room, columns-of way f at, ← e, w, c) refl
 
 -- the data end
-pub run-end : (f : List ℕ) (st : State) (at : ℕ) → length f ≤ at → left f st at ≡ finished st
-unfolding runFrom rows
-run-end f st at h =
-    let none : (length f - at) / 94 ≡ 0 = omega arith in
-    rw none refl
+pub run-end : (way : Way) (f : List ℕ) (st : State) (at : ℕ) → length f ≤ at → left way f st at ≡ finished st
+unfolding runFrom
+run-end way f st at h = rw (raw-end way f at h) refl
 
--- the length's rule: how it is broken, and what is left to do where it is kept
-pub too-short : (f : List ℕ) → length f < 1 → refused Fault.Length 0 0 ≡ checkedOf 94 f
-too-short f h = rw (lt-leb 1 (length f) h) refl
+-- the length's rule, test by test
+pub short : (way : Way) (n : ℕ) → n < 1 → false ≡ lengthFits way n
+short way n h = rw (lt-leb 1 n h) refl
 
-pub uneven : (f : List ℕ) → (length f % 94 ≡ 0 → ⊥) → refused Fault.Length 0 0 ≡ checkedOf 94 f
-uneven f h = rw (ne-eqb (length f % 94) 0 h, and-false (leb 1 (length f))) refl
+pub uneven : (way : Way) (n : ℕ) → (n % recordBytes way ≡ 0 → ⊥) → false ≡ lengthFits way n
+uneven way n h = rw (ne-eqb (n % recordBytes way) 0 h, and-false (leb 1 n)) refl
 
-pub too-long : (f : List ℕ) → 94000000 < length f → refused Fault.Length 0 0 ≡ checkedOf 94 f
-too-long f h = rw (lt-leb (length f) 94000000 h, and-false (leb 1 (length f) && eqb (length f % 94) 0)) refl
+pub even : (way : Way) (n : ℕ) → 1 ≤ n → n % recordBytes way ≡ 0 → leb n (recordBytes way * 1000000) ≡ lengthFits way n
+even way n a b = rw (le-leb 1 n a, eq-eqb (n % recordBytes way) 0 b) refl
 
-pub fits-from : (f : List ℕ) → 1 ≤ length f → length f % 94 ≡ 0 → length f ≤ 94000000 → left f start 0 ≡ checkedOf 94 f
-fits-from f a b c =
-    let whole : length f - 0 ≡ length f = omega arith in
-    rw (le-leb 1 (length f) a, eq-eqb (length f % 94) 0 b, le-leb (length f) 94000000 c, whole) refl
+-- a wrong length is the answer, and where it is right there are these numbers, and all is left to do
+pub unfit : (way : Way) (f : List ℕ) → lengthFits way (length f) ≡ false → refused Fault.Length 0 0 ≡ checkedOf way f
+unfit way f h = rw h refl
 
--- where the walk has not come to the end, a whole record stands
-pub room : (n at r : ℕ) → n % 94 ≡ 0 → at ≡ 94 * r → at ≤ n → (at ≡ n → ⊥) → at + 94 ≤ n
-room n at r a b c d = omega arith
+pub fit : (way : Way) (n : ℕ) → lengthFits way n ≡ true → (n % recordBytes way ≡ 0) × (n ≤ recordBytes way * 1000000)
+fit way n h =
+    let one = and-both (leb 1 n && eqb (n % recordBytes way) 0) (leb n (recordBytes way * 1000000)) h in
+    (eqb-true (n % recordBytes way) 0 (and-both (leb 1 n) (eqb (n % recordBytes way) 0) (one .0) .1), leb-true n (recordBytes way * 1000000) (one .1))
 
-pub record-long : (f : List ℕ) (at : ℕ) → at + 94 ≤ length f → length (recordAt f at) ≡ 94
-record-long f at h = simp (length-take, length-drop) (omega arith)
+pub fits-from : (way : Way) (f : List ℕ) → lengthFits way (length f) ≡ true → left way f start 0 ≡ checkedOf way f
+fits-from way f h = rw (raw-whole way f, h) refl
+
+-- the walk behind r records: before the end a whole record stands, and there are no more of them than a file may have
+pub record Walk (way : Way) (n at r : ℕ) : Type 0 where
+  pub room : at + recordBytes way ≤ n
+  pub next : at + recordBytes way ≡ recordBytes way * (r + 1)
+  pub few : r < 1000000
+  pub short : n ≤ 96000000
+
+pub walk : (way : Way) (n at r : ℕ) → n % recordBytes way ≡ 0 → n ≤ recordBytes way * 1000000 → at ≡ recordBytes way * r → at ≤ n → (at ≡ n → ⊥) → Walk way n at r
+walk Way.Plain n at r a b c d e = record { room = omega arith; next = omega arith; few = omega arith; short = omega arith }
+walk Way.Lined n at r a b c d e = record { room = omega arith; next = omega arith; few = omega arith; short = omega arith }
+
+pub zero-at : (way : Way) → 0 ≡ recordBytes way * 0
+zero-at Way.Plain = refl
+zero-at Way.Lined = refl
+
+pub at-most : (way : Way) (n at r : ℕ) → n ≤ recordBytes way * 1000000 → at ≡ recordBytes way * r → at ≤ n → r < 10000000
+at-most Way.Plain n at r b c d = omega arith
+at-most Way.Lined n at r b c d = omega arith
 
 -- the kept record 5 stays 94 bytes long
 pub header-long : (h : List ℕ) (line : Line) (r : List ℕ) → length h ≡ 94 → length r ≡ 94 → length (nextHeader h line r) ≡ 94

@@ -1,20 +1,20 @@
 // The public functions: every one takes any bytes, does its own checking, and grants or names the first refusal.
+use kinds::Mark;
 use layout::Answer;
 use layout::Checked;
 use layout::Fault;
 use layout::RecordNo;
 use layout::Refusal;
+use layout::Way;
 use records::State;
 use records::order;
 use records::quick;
 use records::tally;
-use rules::Mark;
 use rules::field;
 use rules::near;
 ghost use Prim.Native.Nat.{_+_, _<_};
 ghost use mathlib.Core.Path.{_≡_};
-ghost use Rattle.records.specs.Run.{refused, finished, checkedOf};
-ghost use Rattle.layout.specs.Fields.{recordColumns};
+ghost use Rattle.records.specs.Run.{refused, finished, lengthFits, checkedOf};
 
 fn refused(fault: Fault, number: u64, k: u64) -> Checked
     ensures { λ r. ⌜ r ≡ refused fault number k ⌝ }
@@ -56,20 +56,29 @@ fn finished(st: State) -> Checked
     }
 }
 
+// Whether a file may be so long: whole records, at least one, at most a million.
+fn whole_records(way: Way, size: usize) -> bool
+    ensures { λ r. ⌜ r ≡ lengthFits way size ⌝ }
+{
+    let wide = layout::record_bytes(way);
+    if size < 1 {
+        return false;
+    }
+    if size % wide != 0 {
+        return false;
+    }
+    size <= wide * 1_000_000
+}
+
 // A file is accepted exactly if it keeps the rules; else the first refusal is named.
-pub fn check(file: &[u8]) -> Checked
-    ensures { λ r. ⌜ r ≡ checkedOf recordColumns (now (file .entry)) ⌝ }
+pub fn check(way: Way, file: &[u8]) -> Checked
+    ensures { λ r. ⌜ r ≡ checkedOf way (now (file .entry)) ⌝ }
 {
     let size = file.len();
-    if size < 1 {
+    if !whole_records(way, size) {
         return refused(Fault::Length, 0, 0);
     }
-    if size % 94 != 0 {
-        return refused(Fault::Length, 0, 0);
-    }
-    if 94_000_000 < size {
-        return refused(Fault::Length, 0, 0);
-    }
+    let wide = layout::record_bytes(way);
     let mut out = refused(Fault::Length, 0, 0);
     let st = tally::start();
     let mut place = st.place;
@@ -101,11 +110,15 @@ pub fn check(file: &[u8]) -> Checked
             number += 1;
             k += 1;
         }
+        if !order::closed(way, &file[at..at + wide]) {
+            out = refused(Fault::LineEnd, sums.records + 1, 0);
+            break 'records;
+        }
         tally::count_in_row(&mut bycode, line, said);
         place = order::next_place(place, line, rec);
         sums = tally::next_sums(sums, line, said, rec);
         header = tally::next_header(header, line, rec);
-        at += 94;
+        at += wide;
     }
     out
 }

@@ -1,14 +1,14 @@
 -- How large the numbers of an answer can be: the number at most 25, the field at most 13, the record at most 1,000,001.
 -- Assumes nothing.
-use mathlib.Core.Path.{_≡_, refl}
+use mathlib.Core.Path.{_≡_, refl, _∙_}
 use mathlib.Core.Bool.{Bool, true, false, _&&_}
-use mathlib.Core.List.{List, [], _∷_}
+use mathlib.Core.List.{List, [], _∷_, map}
 use Prim.Native.Nat.{ℕ, _+_, _*_, _/_, _%_, _≤_, _<_}
 use native.Mathlib.Omega.{arith}
 use borrow.Author.Tests.{leb-true}
 use lib.Dec.{leb, eqb, lit≤}
 use lib.IntN.{ℤ}
-use lib.ListN.{length}
+use lib.ListN.{length-map, length}
 use Rattle.text.specs.Decimal.{pick}
 use Rattle.text.specs.Rows.{rows}
 use Rattle.text.proofs.DecimalLaws.{and-both}
@@ -20,25 +20,29 @@ use Rattle.layout.specs.declared.Row.{Row}
 use Rattle.layout.specs.declared.Line.{Line}
 use Rattle.layout.specs.Fields.{rowsOf, firstField}
 use Rattle.layout.specs.Paper.{numberOf}
-use Rattle.rules.specs.declared.Mark.{Mark}
+use Rattle.kinds.specs.declared.Mark.{Mark}
+use Rattle.kinds.specs.declared.Code.{Code}
+use Rattle.kinds.specs.Codes.{codeOf, carries}
 use Rattle.rules.specs.declared.Sums.{Sums}
-use Rattle.rules.specs.declared.Code.{Code}
 use Rattle.rules.specs.Field.{fieldOf}
-use Rattle.rules.specs.Codes.{codeOf, carries}
 use Rattle.records.specs.declared.State.{State}
 use Rattle.records.specs.declared.Verdict.{Verdict}
 use Rattle.records.specs.Order.{complete}
 use Rattle.records.specs.Tally.{start, tally}
-use Rattle.records.specs.Run.{found, fieldsFrom, lineOf, refused, accepted, runFrom, lengthFits, mostRecords, checkedOf}
+use Rattle.records.specs.Run.{found, fieldsFrom, lineOf, Piece, closing, stepped, onward, refused, accepted, runFrom, lengthFits, mostRecords, rawRecords, pieceOf, checkedOf}
+use Rattle.records.proofs.Ways.{rows-few}
+use Rattle.layout.specs.Ways.{recordBytes}
 use Rattle.view.specs.View.{View, entriesOf, sumOver, debitOf, creditOf, amountOf, codeIn, fileOf, viewOf}
 use Rattle.view.specs.Table.{shaped, formed, tableOf}
 use Rattle.view.specs.Outcome.{Spot, refusal, demand, andThen, room, made, readOf, writeOf, entryAt, exists, spotOf, entryNumber, batchControlNumber, fileControlNumber, amend, within, limits, alterAnswer, altered, alterOf, addendumAnswer}
 use Rattle.view.proofs.Bridge.{accepted-view}
 use Rattle.view.proofs.BridgeWalk.{carry}
 use Rattle.altering.proofs.Places.{in-order}
+use Rattle.layout.specs.declared.Way.{Way}
+use Rattle.layout.specs.declared.Checked.{Checked}
 
 -- the paper's numbers are 1 to 25
-pub number-range : (f : Fault) → (1 ≤ numberOf f) × (numberOf f ≤ 25)
+pub number-range : (f : Fault) → (1 ≤ numberOf f) × (numberOf f ≤ 26)
 number-range Fault.Length = (lit≤ tt, lit≤ tt)
 number-range Fault.Ended = (lit≤ tt, lit≤ tt)
 number-range Fault.Misplaced = (lit≤ tt, lit≤ tt)
@@ -64,6 +68,7 @@ number-range Fault.Batch = (lit≤ tt, lit≤ tt)
 number-range Fault.Room = (lit≤ tt, lit≤ tt)
 number-range Fault.Shape = (lit≤ tt, lit≤ tt)
 number-range Fault.NoEntry = (lit≤ tt, lit≤ tt)
+number-range Fault.LineEnd = (lit≤ tt, lit≤ tt)
 
 -- what is refused has a field and a record within these bounds
 pub record Bounded (x : Refusal) : Type 0 where
@@ -116,30 +121,39 @@ one-more st Line.Filler r = refl
 one-more st Line.Past r = refl
 one-more st Line.Other r = refl
 
-run-low : (st : State) (rs : List (List ℕ)) → st .sums .records + length rs ≤ 1000000 → Low (runFrom st rs .answer)
+abbrev pub carried : Verdict → State → State → List Piece → Checked
+carried v next st ps = onward (stepped v next st .verdict) (st .sums .records + 1) (runFrom (stepped v next st .state) ps)
+
+run-low : (st : State) (ps : List Piece) → st .sums .records + length ps ≤ 1000000 → Low (runFrom st ps .answer)
 unfolding runFrom
 run-low st [] l = go (complete (st .place) (st .sums .records))
   where
     go : (b : Bool) → Low (pick b (accepted st) (refused Fault.Ended (st .sums .records + 1) 0) .answer)
     go true = tt
     go false = record { field = lit≤ tt; number = omega (arith, l) }
-run-low st (r ∷ rs) l =
-    go (fieldsFrom (firstField (lineOf st r)) (rowsOf (lineOf st r)) (st .sums) (st .header) r)
+run-low st (p ∷ ps) l =
+    let r = p .columns in
+    go (p .closed) (fieldsFrom (firstField (lineOf st r)) (rowsOf (lineOf st r)) (st .sums) (st .header) r)
     (fields-low (firstField (lineOf st r)) 14 (rowsOf (lineOf st r)) (st .sums) (st .header) r (line-low (lineOf st r)))
-    (run-low (tally st (lineOf st r) r) rs (omega (arith, l, one-more st (lineOf st r) r)))
+    (run-low (tally st (lineOf st r) r) ps (omega (arith, l, one-more st (lineOf st r) r)))
   where
-    go : (v : Verdict) → LowVerdict 14 v → Low (runFrom (tally st (lineOf st r) r) rs .answer) → Low (carry v (tally st (lineOf st r) r) st rs .answer)
-    go Verdict.Passed f later = later
-    go (Verdict.Failed fault k) f later = record { field = omega (arith, f); number = omega (arith, l) }
+    go : (b : Bool) (v : Verdict) → LowVerdict 14 v → Low (runFrom (tally st (lineOf st (p .columns)) (p .columns)) ps .answer)
+        → Low (carried (closing b v) (tally st (lineOf st (p .columns)) (p .columns)) st ps .answer)
+    go true Verdict.Passed f later = later
+    go true (Verdict.Failed fault k) f later = record { field = omega (arith, f); number = omega (arith, l) }
+    go false Verdict.Passed f later = record { field = lit≤ tt; number = omega (arith, l) }
+    go false (Verdict.Failed fault k) f later = record { field = omega (arith, f); number = omega (arith, l) }
 
-pub check-low : (f : List ℕ) → Low (checkedOf 94 f .answer)
-check-low f = go (lengthFits 94 (length f)) refl
+pub check-low : (way : Way) (f : List ℕ) → Low (checkedOf way f .answer)
+check-low way f = go (lengthFits way (length f)) refl
   where
-    go : (b : Bool) → lengthFits 94 (length f) ≡ b → Low (pick b (runFrom start (rows 94 (length f / 94) f)) (refused Fault.Length 0 0) .answer)
+    go : (b : Bool) → lengthFits way (length f) ≡ b → Low (pick b (runFrom start (map (pieceOf way) (rawRecords way f))) (refused Fault.Length 0 0) .answer)
     go false h = record { field = lit≤ tt; number = lit≤ tt }
     go true h =
-        let most = leb-true (length f) (94 * mostRecords) (and-both (leb 1 (length f) && eqb (length f % 94) 0) (leb (length f) (94 * mostRecords)) h .1) in
-        run-low start (rows 94 (length f / 94) f) (rw (length-rows 94 (length f / 94) f) (omega (arith, most)))
+        let w = recordBytes way in
+        let most = leb-true (length f) (w * mostRecords) (and-both (leb 1 (length f) && eqb (length f % w) 0) (leb (length f) (w * mostRecords)) h .1) in
+        let many = length-map (rawRecords way f) (pieceOf way) ∙ length-rows w (length f / w) f in
+        run-low start (map (pieceOf way) (rawRecords way f)) (omega (arith, many, rows-few way (length f) most))
 
 -- ---- the other questions
 
@@ -166,22 +180,22 @@ low-altered (Answer.Refused x) d result f l = l
 low-room : (result buffer : List ℕ) → Low (room result buffer)
 low-room result buffer = low-demand (leb (length result) (length buffer)) (refusal Fault.Room 0 0) Answer.Granted (low-whole Fault.Room) λ e. tt
 
-pub read-low : (f table : List ℕ) → Low (readOf 94 f table .gives .answer)
-read-low f table =
-    low-made (andThen (checkedOf 94 f .answer) (room (tableOf 94 f) table)) (tableOf 94 f) table
-    (low-then (checkedOf 94 f .answer) (room (tableOf 94 f) table) (check-low f) λ e. low-room (tableOf 94 f) table)
+pub read-low : (way : Way) (f table : List ℕ) → Low (readOf way f table .gives .answer)
+read-low way f table =
+    low-made (andThen (checkedOf way f .answer) (room (tableOf way f) table)) (tableOf way f) table
+    (low-then (checkedOf way f .answer) (room (tableOf way f) table) (check-low way f) λ e. low-room (tableOf way f) table)
 
-pub write-low : (t file : List ℕ) → Low (writeOf 94 t file .gives .answer)
-write-low t file =
-    let tried = andThen (checkedOf 94 (formed t) .answer) (room (formed t) file) in
-    low-made (demand (shaped t) (refusal Fault.Shape 0 0) tried) (formed t) file
+pub write-low : (way : Way) (t file : List ℕ) → Low (writeOf way t file .gives .answer)
+write-low way t file =
+    let tried = andThen (checkedOf way (formed way t) .answer) (room (formed way t) file) in
+    low-made (demand (shaped t) (refusal Fault.Shape 0 0) tried) (formed way t) file
     (low-demand (shaped t) (refusal Fault.Shape 0 0) tried (low-whole Fault.Shape)
-    λ h. low-then (checkedOf 94 (formed t) .answer) (room (formed t) file) (check-low (formed t)) λ e. low-room (formed t) file)
+    λ h. low-then (checkedOf way (formed way t) .answer) (room (formed way t) file) (check-low way (formed way t)) λ e. low-room (formed way t) file)
 
-pub addendum-low : (f : List ℕ) (k : ℕ) → Low (addendumAnswer 94 f k)
-addendum-low f k =
-    low-then (checkedOf 94 f .answer) _ (check-low f)
-    λ e. low-demand (exists (viewOf 94 f) k) (refusal Fault.NoEntry 0 0) Answer.Granted (low-whole Fault.NoEntry) λ h. tt
+pub addendum-low : (way : Way) (f : List ℕ) (k : ℕ) → Low (addendumAnswer way f k)
+addendum-low way f k =
+    low-then (checkedOf way f .answer) _ (check-low way f)
+    λ e. low-demand (exists (viewOf way f) k) (refusal Fault.NoEntry 0 0) Answer.Granted (low-whole Fault.NoEntry) λ h. tt
 
 two-low : (t u : Bool) (m n j k : ℕ) → m ≤ 1000001 → n ≤ 1000001 → j ≤ 13 → k ≤ 13 → Low (demand t (refusal Fault.Limit m j) (demand u (refusal Fault.Limit n k) Answer.Granted))
 two-low false u m n j k p q f g = record { field = f; number = p }
@@ -195,18 +209,18 @@ limits-low v s (Code.Credit u) old new p q =
 limits-low v s (Code.Debit u) old new p q =
     two-low (within (sumOver debitOf (s .batch .entries)) old new) (within (sumOver debitOf (entriesOf v)) old new) (batchControlNumber s) (fileControlNumber v) 5 6 p q (lit≤ tt) (lit≤ tt)
 
-pub alter-low : (f : List ℕ) (k a : ℕ) → Low (alterOf 94 f k a .gives .answer)
-alter-low f k a =
-    let v = viewOf 94 f in
+pub alter-low : (way : Way) (f : List ℕ) (k a : ℕ) → Low (alterOf way f k a .gives .answer)
+alter-low way f k a =
+    let v = viewOf way f in
     let c = codeOf (codeIn (entryAt v k)) in
     let amount = refusal Fault.Amount (entryNumber (spotOf v k)) 6 in
     let last = limits v (spotOf v k) c (amountOf (entryAt v k)) a in
-    low-altered (alterAnswer 94 f k a) _ (fileOf (amend v k a)) f
-    (low-then (checkedOf 94 f .answer) (demand (exists v k) (refusal Fault.NoEntry 0 0) (demand (carries c a) amount last)) (check-low f)
+    low-altered (alterAnswer way f k a) _ (fileOf way (amend v k a)) f
+    (low-then (checkedOf way f .answer) (demand (exists v k) (refusal Fault.NoEntry 0 0) (demand (carries c a) amount last)) (check-low way f)
     λ g. low-demand (exists v k) (refusal Fault.NoEntry 0 0) (demand (carries c a) amount last) (low-whole Fault.NoEntry)
     λ x.
     let b = and-both (leb 1 k) (leb k (length (entriesOf v))) x in
     let order = in-order v k (leb-true 1 k (b .0)) (leb-true k (length (entriesOf v)) (b .1)) in
-    let fits = accepted-view f g .keeps .fits in
+    let fits = accepted-view way f g .keeps .fits in
     low-demand (carries c a) amount last (record { field = lit≤ tt; number = omega (arith, order .0, order .1, order .2, fits) })
     λ y. limits-low v (spotOf v k) c (amountOf (entryAt v k)) a (omega (arith, order .1, order .2, fits)) (omega (arith, order .2, fits)))

@@ -1,31 +1,31 @@
 -- A refusal is the first one: every record before it passed, and in its record every field before it was right.
 -- Assumes nothing.
-use mathlib.Core.Path.{_≡_, refl, sym, ap, _∙_, subst}
+use mathlib.Core.Path.{_≡_, refl, sym, ap, ap₂, _∙_, subst}
 use mathlib.Core.Logic.{_⊎_, inl, inr}
 use mathlib.Core.Bool.{Bool, true, false}
-use mathlib.Core.List.{List, [], _∷_, _++_}
-use Prim.Native.Nat.{ℕ, _+_, _/_}
+use mathlib.Core.List.{List, [], _∷_, _++_, map}
+use Prim.Native.Nat.{ℕ, _+_}
 use native.Mathlib.Omega.{arith}
 use lib.ListN.{length}
 use Rattle.text.specs.Decimal.{pick}
-use Rattle.text.specs.Rows.{rows}
 use Rattle.layout.specs.declared.Fault.{Fault}
 use Rattle.layout.specs.declared.Answer.{Answer}
 use Rattle.layout.specs.declared.Refusal.{Refusal}
 use Rattle.layout.specs.declared.Row.{Row}
 use Rattle.layout.specs.Fields.{rowsOf, firstField}
-use Rattle.rules.specs.declared.Mark.{Mark}
+use Rattle.kinds.specs.declared.Mark.{Mark}
 use Rattle.rules.specs.declared.Sums.{Sums}
 use Rattle.rules.specs.Field.{fieldOf}
 use Rattle.records.specs.declared.State.{State}
 use Rattle.records.specs.declared.Verdict.{Verdict}
 use Rattle.records.specs.Order.{complete}
 use Rattle.records.specs.Tally.{start, tally}
-use Rattle.records.specs.Run.{found, fieldsFrom, lineOf, stepped, recordOf, refused, accepted, runFrom, lengthFits, checkedOf}
+use Rattle.records.specs.Run.{found, fieldsFrom, lineOf, Piece, closing, stepped, recordOf, refused, accepted, runFrom, lengthFits, rawRecords, pieceOf, checkedOf}
 use Rattle.view.specs.Keeps.{Right}
 use Rattle.view.proofs.Answers.{not-granted}
-use Rattle.view.proofs.BridgeWalk.{carry}
-use Rattle.ach.proofs.Bounds.{one-more}
+use Rattle.view.proofs.BridgeFields.{passed-right}
+use Rattle.ach.proofs.Bounds.{one-more, carried}
+use Rattle.layout.specs.declared.Way.{Way}
 
 -- of the rows, the first with number k: those before the one with number n are right, and that one is wrong
 pub record FirstField (k : ℕ) (table : List Row) (s : Sums) (h r : List ℕ) (fault : Fault) (n : ℕ) : Type 0 where
@@ -38,24 +38,27 @@ pub record FirstField (k : ℕ) (table : List Row) (s : Sums) (h r : List ℕ) (
   pub number : n ≡ k + length front
 
 -- these records pass, one after another
-abbrev pub Passes : State → List (List ℕ) → Type 0
+abbrev pub Passes : State → List Piece → Type 0
 Passes st [] = Unit {0}
-Passes st (r ∷ rs) = (recordOf st r .verdict ≡ Verdict.Passed) × Passes (recordOf st r .state) rs
+Passes st (p ∷ ps) = (recordOf st p .verdict ≡ Verdict.Passed) × Passes (recordOf st p .state) ps
 
 -- the state behind them
-abbrev pub behind : State → List (List ℕ) → State
+abbrev pub behind : State → List Piece → State
 behind st [] = st
-behind st (r ∷ rs) = behind (recordOf st r .state) rs
+behind st (p ∷ ps) = behind (recordOf st p .state) ps
 
 -- the next record is refused with x, or there is none where one is still due
-abbrev pub Stops : State → List (List ℕ) → Refusal → Type 0
+-- (at its first wrong field, or, where every field is right, for its line end)
+abbrev pub Stops : State → List Piece → Refusal → Type 0
 Stops st [] x = (complete (st .place) (st .sums .records) ≡ false) × (x .fault ≡ Fault.Ended) × (x .field ≡ 0)
-Stops st (r ∷ rs) x = FirstField (firstField (lineOf st r)) (rowsOf (lineOf st r)) (st .sums) (st .header) r (x .fault) (x .field)
+Stops st (p ∷ ps) x =
+    FirstField (firstField (lineOf st (p .columns))) (rowsOf (lineOf st (p .columns))) (st .sums) (st .header) (p .columns) (x .fault) (x .field)
+    ⊎ (Right (rowsOf (lineOf st (p .columns))) (st .sums) (st .header) (p .columns) × (p .closed ≡ false) × (x .fault ≡ Fault.LineEnd) × (x .field ≡ 0))
 
-pub record First (st : State) (rs : List (List ℕ)) (x : Refusal) : Type 0 where
-  pub passed : List (List ℕ)
-  pub rest : List (List ℕ)
-  pub form : rs ≡ passed ++ rest
+pub record First (st : State) (ps : List Piece) (x : Refusal) : Type 0 where
+  pub passed : List Piece
+  pub rest : List Piece
+  pub form : ps ≡ passed ++ rest
   pub pass : Passes st passed
   pub number : x .record .0 ≡ st .sums .records + length passed + 1
   pub stops : Stops (behind st passed) rest x
@@ -108,7 +111,7 @@ abbrev saidOf : Answer → Refusal → Refusal
 saidOf Answer.Granted d = d
 saidOf (Answer.Refused x) d = x
 
-first-from : (st : State) (rs : List (List ℕ)) (x : Refusal) → runFrom st rs .answer ≡ Answer.Refused x → First st rs x
+first-from : (st : State) (ps : List Piece) (x : Refusal) → runFrom st ps .answer ≡ Answer.Refused x → First st ps x
 unfolding runFrom
 first-from st [] x e = go (complete (st .place) (st .sums .records)) refl e
   where
@@ -125,42 +128,41 @@ first-from st [] x e = go (complete (st .place) (st .sums .records)) refl e
           number = omega (arith, ap (λ y. y .record .0) s);
           stops = (h, ap (λ y. y .fault) (sym s), ap (λ y. y .field) (sym s));
         }
-first-from st (r ∷ rs) x e =
-    go (fieldsFrom (firstField (lineOf st r)) (rowsOf (lineOf st r)) (st .sums) (st .header) r) refl e λ g. first-from (tally st (lineOf st r) r) rs x g
+first-from st (p ∷ ps) x e =
+    go (p .closed) refl (fieldsFrom (firstField (lineOf st (p .columns))) (rowsOf (lineOf st (p .columns))) (st .sums) (st .header) (p .columns)) refl e λ g. first-from (tally st (lineOf st (p .columns)) (p .columns)) ps x g
   where
-    go : (v : Verdict) → fieldsFrom (firstField (lineOf st r)) (rowsOf (lineOf st r)) (st .sums) (st .header) r ≡ v
-        → carry v (tally st (lineOf st r) r) st rs .answer ≡ Answer.Refused x
-        → (runFrom (tally st (lineOf st r) r) rs .answer ≡ Answer.Refused x → First (tally st (lineOf st r) r) rs x) → First st (r ∷ rs) x
-    go Verdict.Passed h g later =
+    stopped : (y : Refusal) → y .record .0 ≡ st .sums .records + 1 → Stops st (p ∷ ps) y → First st (p ∷ ps) y
+    stopped y n s = record { passed = []; rest = p ∷ ps; form = refl; pass = tt; number = omega (arith, n); stops = s }
+
+    go : (b : Bool) → p .closed ≡ b → (v : Verdict) → fieldsFrom (firstField (lineOf st (p .columns))) (rowsOf (lineOf st (p .columns))) (st .sums) (st .header) (p .columns) ≡ v → carried (closing b v) (tally st (lineOf st (p .columns)) (p .columns)) st ps .answer ≡ Answer.Refused x
+        → (runFrom (tally st (lineOf st (p .columns)) (p .columns)) ps .answer ≡ Answer.Refused x → First (tally st (lineOf st (p .columns)) (p .columns)) ps x) → First st (p ∷ ps) x
+    go true c Verdict.Passed h g later =
         let l = later g in
-        let to : recordOf st r .state ≡ tally st (lineOf st r) r = ap (λ v. stepped v (tally st (lineOf st r) r) st .state) h in
+        let both = ap₂ closing c h in
+        let to : recordOf st p .state ≡ (tally st (lineOf st (p .columns)) (p .columns)) = ap (λ v. stepped v (tally st (lineOf st (p .columns)) (p .columns)) st .state) both in
         record {
-          passed = r ∷ l .passed;
+          passed = p ∷ l .passed;
           rest = l .rest;
-          form = ap (λ t. r ∷ t) (l .form);
-          pass = (ap (λ v. stepped v (tally st (lineOf st r) r) st .verdict) h, subst (λ t. Passes t (l .passed)) (sym to) (l .pass));
-          number = omega (arith, l .number, one-more st (lineOf st r) r);
+          form = ap (λ t. p ∷ t) (l .form);
+          pass = (ap (λ v. stepped v (tally st (lineOf st (p .columns)) (p .columns)) st .verdict) both, subst (λ t. Passes t (l .passed)) (sym to) (l .pass));
+          number = omega (arith, l .number, one-more st (lineOf st (p .columns)) (p .columns));
           stops = subst (λ t. Stops (behind t (l .passed)) (l .rest) x) (sym to) (l .stops);
         }
-    go (Verdict.Failed fault k) h g later =
-        let s = ap (λ a. saidOf a x) g in
-        record {
-          passed = [];
-          rest = r ∷ rs;
-          form = refl;
-          pass = tt;
-          number = omega (arith, ap (λ y. y .record .0) s);
-          stops = subst (λ y. Stops st (r ∷ rs) y) s (first-field (firstField (lineOf st r)) (rowsOf (lineOf st r)) (st .sums) (st .header) r fault k h);
-        }
+    go false c Verdict.Passed h g later =
+        subst (First st (p ∷ ps)) (ap (λ a. saidOf a x) g) (stopped _ refl (inr (passed-right _ _ (st .sums) (st .header) (p .columns) h, c, refl, refl)))
+    go true c (Verdict.Failed fault k) h g later =
+        subst (First st (p ∷ ps)) (ap (λ a. saidOf a x) g) (stopped _ refl (inl (first-field (firstField (lineOf st (p .columns))) (rowsOf (lineOf st (p .columns))) (st .sums) (st .header) (p .columns) fault k h)))
+    go false c (Verdict.Failed fault k) h g later =
+        subst (First st (p ∷ ps)) (ap (λ a. saidOf a x) g) (stopped _ refl (inl (first-field (firstField (lineOf st (p .columns))) (rowsOf (lineOf st (p .columns))) (st .sums) (st .header) (p .columns) fault k h)))
 
 -- a file is refused for its length, with no record and no field, or at the first place where its records stop
-pub refused-first : (f : List ℕ) (x : Refusal) → checkedOf 94 f .answer ≡ Answer.Refused x
-    → ((lengthFits 94 (length f) ≡ false) × (x .fault ≡ Fault.Length) × (x .record .0 ≡ 0) × (x .field ≡ 0)) ⊎ First start (rows 94 (length f / 94) f) x
-refused-first f x e = go (lengthFits 94 (length f)) refl e
+pub refused-first : (way : Way) (f : List ℕ) (x : Refusal) → checkedOf way f .answer ≡ Answer.Refused x
+    → ((lengthFits way (length f) ≡ false) × (x .fault ≡ Fault.Length) × (x .record .0 ≡ 0) × (x .field ≡ 0)) ⊎ First start (map (pieceOf way) (rawRecords way f)) x
+refused-first way f x e = go (lengthFits way (length f)) refl e
   where
-    go : (b : Bool) → lengthFits 94 (length f) ≡ b → pick b (runFrom start (rows 94 (length f / 94) f)) (refused Fault.Length 0 0) .answer ≡ Answer.Refused x
-        → ((lengthFits 94 (length f) ≡ false) × (x .fault ≡ Fault.Length) × (x .record .0 ≡ 0) × (x .field ≡ 0)) ⊎ First start (rows 94 (length f / 94) f) x
+    go : (b : Bool) → lengthFits way (length f) ≡ b → pick b (runFrom start (map (pieceOf way) (rawRecords way f))) (refused Fault.Length 0 0) .answer ≡ Answer.Refused x
+        → ((lengthFits way (length f) ≡ false) × (x .fault ≡ Fault.Length) × (x .record .0 ≡ 0) × (x .field ≡ 0)) ⊎ First start (map (pieceOf way) (rawRecords way f)) x
     go false h g =
         let s = ap (λ a. saidOf a x) g in
         inl (h, ap (λ y. y .fault) (sym s), ap (λ y. y .record .0) (sym s), ap (λ y. y .field) (sym s))
-    go true h g = inr (first-from start (rows 94 (length f / 94) f) x g)
+    go true h g = inr (first-from start (map (pieceOf way) (rawRecords way f)) x g)

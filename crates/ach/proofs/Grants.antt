@@ -28,6 +28,7 @@ use Rattle.view.proofs.Tables.{entries-sized, formed-of-table}
 use Rattle.view.proofs.Amend.{amended-amount, entry-amended, amend-sized, table-amended}
 use Rattle.view.proofs.RoundTrips.{file-back, read-done, write-done}
 use Rattle.view.proofs.Alter.{alter-exactly, alter-leaves}
+use Rattle.layout.specs.declared.Way.{Way}
 
 -- ---- the answer of what was made
 
@@ -41,47 +42,47 @@ made-refused Answer.Granted result buffer r e = not-granted (sym e)
 made-refused (Answer.Refused x) result buffer r e = (refl, refl)
 
 -- a refusal leaves what was lent, and its length is 0
-pub read-leaves : (f table : List ℕ) (r : Refusal) → readOf 94 f table .gives .answer ≡ Answer.Refused r
-    → (readOf 94 f table .leaves ≡ table) × (readOf 94 f table .gives .length ≡ 0)
-read-leaves f table r e = made-refused (andThen (checkedOf 94 f .answer) (room (tableOf 94 f) table)) (tableOf 94 f) table r e
+pub read-leaves : (way : Way) (f table : List ℕ) (r : Refusal) → readOf way f table .gives .answer ≡ Answer.Refused r
+    → (readOf way f table .leaves ≡ table) × (readOf way f table .gives .length ≡ 0)
+read-leaves way f table r e = made-refused (andThen (checkedOf way f .answer) (room (tableOf way f) table)) (tableOf way f) table r e
 
-pub write-leaves : (t file : List ℕ) (r : Refusal) → writeOf 94 t file .gives .answer ≡ Answer.Refused r
-    → (writeOf 94 t file .leaves ≡ file) × (writeOf 94 t file .gives .length ≡ 0)
-write-leaves t file r e =
-    made-refused (demand (shaped t) (refusal Fault.Shape 0 0) (andThen (checkedOf 94 (formed t) .answer) (room (formed t) file))) (formed t) file r e
+pub write-leaves : (way : Way) (t file : List ℕ) (r : Refusal) → writeOf way t file .gives .answer ≡ Answer.Refused r
+    → (writeOf way t file .leaves ≡ file) × (writeOf way t file .gives .length ≡ 0)
+write-leaves way t file r e =
+    made-refused (demand (shaped t) (refusal Fault.Shape 0 0) (andThen (checkedOf way (formed way t) .answer) (room (formed way t) file))) (formed way t) file r e
 
 room-granted : (result buffer : List ℕ) → room result buffer ≡ Answer.Granted → length result ≤ length buffer
 room-granted result buffer e = leb-true (length result) (length buffer) (demand-granted (leb (length result) (length buffer)) _ Answer.Granted e .0)
 
 -- ---- when it is granted
 
-pub read-exactly : (f table : List ℕ)
-    → (readOf 94 f table .gives .answer ≡ Answer.Granted) ↔ ((checkedOf 94 f .answer ≡ Answer.Granted) × (length (tableOf 94 f) ≤ length table))
-read-exactly f table = (
+pub read-exactly : (way : Way) (f table : List ℕ)
+    → (readOf way f table .gives .answer ≡ Answer.Granted) ↔ ((checkedOf way f .answer ≡ Answer.Granted) × (length (tableOf way f) ≤ length table))
+read-exactly way f table = (
   λ e.
-      let a = then-granted (checkedOf 94 f .answer) (room (tableOf 94 f) table) (sym (answered _ (tableOf 94 f) table) ∙ e) in
-      (a .0, room-granted (tableOf 94 f) table (a .1)),
-  λ h. ap (λ o. o .gives .answer) (read-done f table (h .0) (h .1)),
+      let a = then-granted (checkedOf way f .answer) (room (tableOf way f) table) (sym (answered _ (tableOf way f) table) ∙ e) in
+      (a .0, room-granted (tableOf way f) table (a .1)),
+  λ h. ap (λ o. o .gives .answer) (read-done way f table (h .0) (h .1)),
 )
 
-pub write-exactly : (t file : List ℕ)
-    → (writeOf 94 t file .gives .answer ≡ Answer.Granted)
-    ↔ ((shaped t ≡ true) × (checkedOf 94 (formed t) .answer ≡ Answer.Granted) × (length (formed t) ≤ length file))
-write-exactly t file = (
+pub write-exactly : (way : Way) (t file : List ℕ)
+    → (writeOf way t file .gives .answer ≡ Answer.Granted)
+    ↔ ((shaped t ≡ true) × (checkedOf way (formed way t) .answer ≡ Answer.Granted) × (length (formed way t) ≤ length file))
+write-exactly way t file = (
   λ e.
-      let tried = andThen (checkedOf 94 (formed t) .answer) (room (formed t) file) in
-      let a = demand-granted (shaped t) _ tried (sym (answered _ (formed t) file) ∙ e) in
-      let b = then-granted (checkedOf 94 (formed t) .answer) (room (formed t) file) (a .1) in
-      (a .0, b .0, room-granted (formed t) file (b .1)),
-  λ h. ap (λ o. o .gives .answer) (write-done t file (h .0) (h .1) (h .2)),
+      let tried = andThen (checkedOf way (formed way t) .answer) (room (formed way t) file) in
+      let a = demand-granted (shaped t) _ tried (sym (answered _ (formed way t) file) ∙ e) in
+      let b = then-granted (checkedOf way (formed way t) .answer) (room (formed way t) file) (a .1) in
+      (a .0, b .0, room-granted (formed way t) file (b .1)),
+  λ h. ap (λ o. o .gives .answer) (write-done way t file (h .0) (h .1) (h .2)),
 )
 
 -- an accepted file is written from its table
-pub write-file : (f file : List ℕ) → checkedOf 94 f .answer ≡ Answer.Granted → length f ≤ length file
-    → writeOf 94 (tableOf 94 f) file ≡ made Answer.Granted f file
-write-file f file g l =
-    let b = file-back f g in
-    write-done (tableOf 94 f) file (b .0) (ap (λ x. checkedOf 94 x .answer) (b .1) ∙ g) (rw (b .1) l) ∙ ap (λ x. made Answer.Granted x file) (b .1)
+pub write-file : (way : Way) (f file : List ℕ) → checkedOf way f .answer ≡ Answer.Granted → length f ≤ length file
+    → writeOf way (tableOf way f) file ≡ made Answer.Granted f file
+write-file way f file g l =
+    let b = file-back way f g in
+    write-done way (tableOf way f) file (b .0) (ap (λ x. checkedOf way x .answer) (b .1) ∙ g) (rw (b .1) l) ∙ ap (λ x. made Answer.Granted x file) (b .1)
 
 -- ---- an alteration is seen
 
@@ -89,20 +90,20 @@ there : (n k : ℕ) → (leb 1 k && leb k n) ≡ true → (1 ≤ k) × (k ≤ n)
 there n k e = let b = and-both (leb 1 k) (leb k n) e in (leb-true 1 k (b .0), leb-true k n (b .1))
 
 -- the amount that the file then has is the one that was put in
-pub alter-amount : (f : List ℕ) (k a : ℕ) → alterOf 94 f k a .gives .answer ≡ Answer.Granted
-    → amountOf (entryAt (viewOf 94 (alterOf 94 f k a .leaves)) k) ≡ a
-alter-amount f k a e =
-    let v = viewOf 94 f in
-    let may = alter-exactly f k a .0 e in
+pub alter-amount : (way : Way) (f : List ℕ) (k a : ℕ) → alterOf way f k a .gives .answer ≡ Answer.Granted
+    → amountOf (entryAt (viewOf way (alterOf way f k a .leaves)) k) ≡ a
+alter-amount way f k a e =
+    let v = viewOf way f in
+    let may = alter-exactly way f k a .0 e in
     let few : a < 10 ^ 10 = omega (arith, may .digits) in
-    let s = accepted-view f (may .accepted) .sized in
+    let s = accepted-view way f (may .accepted) .sized in
     let b = there (length (entriesOf v)) k (may .entry) in
     let new = amend-sized v k a s (b .0) (b .1) few in
     let long = all-at SizedEntry (entriesOf v) (k - 1) noEntry (entries-sized (v .batches) (s .each)) (omega (arith, b .0, b .1)) .long in
-    let left : alterOf 94 f k a .leaves ≡ fileOf (amend v k a) =
-    alter-leaves f k a e ∙ ap formed (table-amended v k a s (b .0) (b .1) few) ∙ formed-of-table (amend v k a) new in
-    ap (λ x. amountOf (entryAt (viewOf 94 x) k)) left
-    ∙ ap (λ x. amountOf (entryAt x k)) (view-of-file (amend v k a) new)
+    let left : alterOf way f k a .leaves ≡ fileOf way (amend v k a) =
+    alter-leaves way f k a e ∙ ap (formed way) (table-amended v k a s (b .0) (b .1) few) ∙ formed-of-table way (amend v k a) new in
+    ap (λ x. amountOf (entryAt (viewOf way x) k)) left
+    ∙ ap (λ x. amountOf (entryAt x k)) (view-of-file way (amend v k a) new)
     ∙ ap amountOf (entry-amended v k a s (b .0) (b .1) few)
     ∙ amended-amount (entryAt v k) a long few
 

@@ -4,53 +4,54 @@ use layout::Answer;
 use layout::Checked;
 use layout::EntryNo;
 use layout::Made;
+use layout::Way;
 ghost use Rattle.ach.specs.Contracts.{Checks, Reads, Writes, Alters, HandsOut, Explains, Spans};
 
 // A file is accepted exactly if it keeps the rules; else the first refusal is named.
-pub fn check(file: &[u8]) -> Checked
-    ensures { λ r. ⌜ Checks (now (file .entry)) r ⌝ }
+pub fn check(way: Way, file: &[u8]) -> Checked
+    ensures { λ r. ⌜ Checks way (now (file .entry)) r ⌝ }
 {
-    accept::check(file)
+    accept::check(way, file)
 }
 
 // The pay table of an accepted file, written to the front of the lent table.
-pub fn read(file: &[u8], table: &mut [u8]) -> Made
-    ensures { λ r. ⌜ Reads (now (file .entry)) (now (table .entry)) r (now (table .exit)) ⌝ }
+pub fn read(way: Way, file: &[u8], table: &mut [u8]) -> Made
+    ensures { λ r. ⌜ Reads way (now (file .entry)) (now (table .entry)) r (now (table .exit)) ⌝ }
 {
-    reading::read(file, table)
+    reading::read(way, file, table)
 }
 
 // The file of a pay table, written to the front of the lent file.
-pub fn write(table: &[u8], file: &mut [u8]) -> Made
-    ensures { λ r. ⌜ Writes (now (table .entry)) (now (file .entry)) r (now (file .exit)) ⌝ }
+pub fn write(way: Way, table: &[u8], file: &mut [u8]) -> Made
+    ensures { λ r. ⌜ Writes way (now (table .entry)) (now (file .entry)) r (now (file .exit)) ⌝ }
 {
-    writing::write(table, file)
+    writing::write(way, table, file)
 }
 
 // One entry's amount altered in place, with the totals of its side.
-pub fn alter(file: &mut [u8], entry: EntryNo, amount: u64) -> Altered
-    ensures { λ r. ⌜ Alters (now (file .entry)) (entry .0) amount r (now (file .exit)) ⌝ }
+pub fn alter(way: Way, file: &mut [u8], entry: EntryNo, amount: u64) -> Altered
+    ensures { λ r. ⌜ Alters way (now (file .entry)) (entry .0) amount r (now (file .exit)) ⌝ }
 {
-    altering::alter(file, entry, amount)
+    altering::alter(way, file, entry, amount)
 }
 
 // An entry's addendum, handed back as the part of the lent file that holds it, or its empty part.
-pub fn addendum(file: &[u8], entry: EntryNo) -> &[u8]
-    ensures { λ r. ⌜ HandsOut (now (file .entry)) (entry .0) (now r) ⌝ }
+pub fn addendum(way: Way, file: &[u8], entry: EntryNo) -> &[u8]
+    ensures { λ r. ⌜ HandsOut way (now (file .entry)) (entry .0) (now r) ⌝ }
 {
-    altering::addendum(file, entry)
+    altering::addendum(way, file, entry)
 }
 
 // The second question, of the same file and number: why there is no addendum.
-pub fn addendum_answer(file: &[u8], entry: EntryNo) -> Answer
-    ensures { λ r. ⌜ Explains (now (file .entry)) (entry .0) r ⌝ }
+pub fn addendum_answer(way: Way, file: &[u8], entry: EntryNo) -> Answer
+    ensures { λ r. ⌜ Explains way (now (file .entry)) (entry .0) r ⌝ }
 {
-    altering::addendum_answer(file, entry)
+    altering::addendum_answer(way, file, entry)
 }
 
 // The answer and where the addendum stands in the file, for callers that cannot be handed a part of it.
-pub fn asked_span(file: &[u8], entry: EntryNo) -> altering::AskedSpan
-    ensures { λ r. ⌜ Spans (now (file .entry)) (entry .0) r ⌝ }
+pub fn asked_span(way: Way, file: &[u8], entry: EntryNo) -> altering::AskedSpan
+    ensures { λ r. ⌜ Spans way (now (file .entry)) (entry .0) r ⌝ }
 {
-    altering::asked_span(file, entry)
+    altering::asked_span(way, file, entry)
 }

@@ -10,7 +10,7 @@ use Rattle.layout.specs.Paper.{paperOf}
 use Rattle.records.specs.Run.{checkedOf}
 use Rattle.view.specs.Outcome.{readOf, writeOf, alterOf, addendumAnswer}
 use Rattle.view.proofs.Answers.{not-granted}
-use Rattle.ach.specs.Contracts.{way}
+use Rattle.layout.specs.declared.Way.{Way}
 use Rattle.ach.proofs.Bounds.{Low, number-range, check-low, read-low, write-low, alter-low, addendum-low}
 use Rattle.ach_c.specs.Boundary.{codeOfAnswer}
 
@@ -22,7 +22,7 @@ pub record Told (c : ℕ) (a : Answer) : Type 0 where
   pub granted : (c ≡ 0) ↔ (a ≡ Answer.Granted)
 
 -- three small numbers, packed and unpacked
-module _ (n f r : ℕ) (p : n ≤ 25) (q : f ≤ 13) (l : r ≤ 1000001) where
+module _ (n f r : ℕ) (p : n ≤ 26) (q : f ≤ 13) (l : r ≤ 1000001) where
   abbrev code : ℕ
   code = n + 256 * (f % 256) + 65536 * (r % 4294967296)
 
@@ -45,17 +45,17 @@ told (Answer.Refused x) l =
     }
 
 -- so it is with each of the five functions
-pub check-told : (f : List ℕ) → Told (codeOfAnswer (checkedOf way f .answer)) (checkedOf way f .answer)
-check-told f = told (checkedOf way f .answer) (check-low f)
+pub check-told : (way : Way) (f : List ℕ) → Told (codeOfAnswer (checkedOf way f .answer)) (checkedOf way f .answer)
+check-told way f = told (checkedOf way f .answer) (check-low way f)
 
-pub read-told : (f table : List ℕ) → Told (codeOfAnswer (readOf way f table .gives .answer)) (readOf way f table .gives .answer)
-read-told f table = told (readOf way f table .gives .answer) (read-low f table)
+pub read-told : (way : Way) (f table : List ℕ) → Told (codeOfAnswer (readOf way f table .gives .answer)) (readOf way f table .gives .answer)
+read-told way f table = told (readOf way f table .gives .answer) (read-low way f table)
 
-pub write-told : (t file : List ℕ) → Told (codeOfAnswer (writeOf way t file .gives .answer)) (writeOf way t file .gives .answer)
-write-told t file = told (writeOf way t file .gives .answer) (write-low t file)
+pub write-told : (way : Way) (t file : List ℕ) → Told (codeOfAnswer (writeOf way t file .gives .answer)) (writeOf way t file .gives .answer)
+write-told way t file = told (writeOf way t file .gives .answer) (write-low way t file)
 
-pub alter-told : (f : List ℕ) (k a : ℕ) → Told (codeOfAnswer (alterOf way f k a .gives .answer)) (alterOf way f k a .gives .answer)
-alter-told f k a = told (alterOf way f k a .gives .answer) (alter-low f k a)
+pub alter-told : (way : Way) (f : List ℕ) (k a : ℕ) → Told (codeOfAnswer (alterOf way f k a .gives .answer)) (alterOf way f k a .gives .answer)
+alter-told way f k a = told (alterOf way f k a .gives .answer) (alter-low way f k a)
 
-pub addendum-told : (f : List ℕ) (k : ℕ) → Told (codeOfAnswer (addendumAnswer way f k)) (addendumAnswer way f k)
-addendum-told f k = told (addendumAnswer way f k) (addendum-low f k)
+pub addendum-told : (way : Way) (f : List ℕ) (k : ℕ) → Told (codeOfAnswer (addendumAnswer way f k)) (addendumAnswer way f k)
+addendum-told way f k = told (addendumAnswer way f k) (addendum-low way f k)

@@ -5,6 +5,13 @@ use lib.Seq.{sets}
 use Rattle.layout.specs.declared.Answer.{Answer}
 use Rattle.layout.specs.declared.Checked.{Checked}
 use Rattle.layout.specs.Paper.{Paper, paperOf}
+use lib.Dec.{eqb}
+use Rattle.text.specs.Decimal.{pick}
+use Rattle.layout.specs.declared.Way.{Way}
+
+-- "0 the first way, any other the second"
+abbrev pub wayOf : ℕ → Way
+wayOf n = pick (eqb n 0) Way.Plain Way.Lined
 
 -- number + 256 * field + 65536 * record, each cut to its bits; 0 where it is granted
 abbrev pub coded : Paper → ℕ

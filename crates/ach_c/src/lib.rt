@@ -1,16 +1,23 @@
 // The boundary: thin, total functions on slices and numbers for callers in C, Rust and other languages (include/ach.h).
 use layout::Answer;
 use layout::EntryNo;
+use layout::Way;
 ghost use Prim.Native.Nat.{_+_, _*_, _%_, _≤_};
 ghost use mathlib.Core.Path.{_≡_};
 ghost use lib.Seq.{sets};
-ghost use Rattle.ach.specs.Contracts.{way};
 ghost use Rattle.records.specs.Run.{checkedOf};
-ghost use Rattle.ach_c.specs.Boundary.{codeOfAnswer, numbersOf, numbersLeft, left};
+ghost use Rattle.ach_c.specs.Boundary.{wayOf, codeOfAnswer, numbersOf, numbersLeft, left};
 ghost use Rattle.view.specs.Outcome.{readOf, writeOf, alterOf, addendumAnswer, addendumOf};
 
+// The way of a file, told by a number.
+fn way_of(number: u64) -> Way
+    ensures { λ r. ⌜ r ≡ wayOf number ⌝ }
+{
+    if number == 0 { Way::Plain } else { Way::Lined }
+}
+
 fn packed(number: u64, field: u64, record: u64) -> u64
-    requires { ⌜ number ≤ 25 ⌝ }
+    requires { ⌜ number ≤ 26 ⌝ }
     ensures { λ r. ⌜ r ≡ number + 256 * (field % 256) + 65536 * («record» % 4294967296) ⌝ }
 {
     number + 256 * (field % 256) + 65536 * (record % 4_294_967_296)
@@ -42,10 +49,10 @@ fn put_rows(numbers: &mut [u64; 21], rows: [u64; 16])
 }
 
 #[no_mangle]
-pub extern "C" fn ach_check(file: &[u8], acceptance: &mut [u64; 21]) -> u64
-    ensures { λ r. ⌜ (r ≡ codeOfAnswer (checkedOf way (now (file .entry)) .answer)) × (now (acceptance .exit) ≡ numbersLeft (checkedOf way (now (file .entry)) .answer) (numbersOf (checkedOf way (now (file .entry)))) (now (acceptance .entry))) ⌝ }
+pub extern "C" fn ach_check(way: u64, file: &[u8], acceptance: &mut [u64; 21]) -> u64
+    ensures { λ r. ⌜ (r ≡ codeOfAnswer (checkedOf (wayOf way) (now (file .entry)) .answer)) × (now (acceptance .exit) ≡ numbersLeft (checkedOf (wayOf way) (now (file .entry)) .answer) (numbersOf (checkedOf (wayOf way) (now (file .entry)))) (now (acceptance .entry))) ⌝ }
 {
-    let checked = ach::check(file);
+    let checked = ach::check(way_of(way), file);
     let answer = checked.answer;
     if let Answer::Granted = answer {
         acceptance[0] = checked.batches;
@@ -61,10 +68,10 @@ pub extern "C" fn ach_check(file: &[u8], acceptance: &mut [u64; 21]) -> u64
 }
 
 #[no_mangle]
-pub extern "C" fn ach_read(file: &[u8], table: &mut [u8], length: &mut u64) -> u64
-    ensures { λ r. ⌜ (r ≡ codeOfAnswer (readOf way (now (file .entry)) (now (table .entry)) .gives .answer)) × (now (table .exit) ≡ readOf way (now (file .entry)) (now (table .entry)) .leaves) × (now (length .exit) ≡ left (readOf way (now (file .entry)) (now (table .entry)) .gives .answer) (readOf way (now (file .entry)) (now (table .entry)) .gives .length) (now (length .entry))) ⌝ }
+pub extern "C" fn ach_read(way: u64, file: &[u8], table: &mut [u8], length: &mut u64) -> u64
+    ensures { λ r. ⌜ (r ≡ codeOfAnswer (readOf (wayOf way) (now (file .entry)) (now (table .entry)) .gives .answer)) × (now (table .exit) ≡ readOf (wayOf way) (now (file .entry)) (now (table .entry)) .leaves) × (now (length .exit) ≡ left (readOf (wayOf way) (now (file .entry)) (now (table .entry)) .gives .answer) (readOf (wayOf way) (now (file .entry)) (now (table .entry)) .gives .length) (now (length .entry))) ⌝ }
 {
-    let made = ach::read(file, table);
+    let made = ach::read(way_of(way), file, table);
     let answer = made.answer;
     if let Answer::Granted = answer {
         *length = made.length;
@@ -74,10 +81,10 @@ pub extern "C" fn ach_read(file: &[u8], table: &mut [u8], length: &mut u64) -> u
 }
 
 #[no_mangle]
-pub extern "C" fn ach_write(table: &[u8], file: &mut [u8], length: &mut u64) -> u64
-    ensures { λ r. ⌜ (r ≡ codeOfAnswer (writeOf way (now (table .entry)) (now (file .entry)) .gives .answer)) × (now (file .exit) ≡ writeOf way (now (table .entry)) (now (file .entry)) .leaves) × (now (length .exit) ≡ left (writeOf way (now (table .entry)) (now (file .entry)) .gives .answer) (writeOf way (now (table .entry)) (now (file .entry)) .gives .length) (now (length .entry))) ⌝ }
+pub extern "C" fn ach_write(way: u64, table: &[u8], file: &mut [u8], length: &mut u64) -> u64
+    ensures { λ r. ⌜ (r ≡ codeOfAnswer (writeOf (wayOf way) (now (table .entry)) (now (file .entry)) .gives .answer)) × (now (file .exit) ≡ writeOf (wayOf way) (now (table .entry)) (now (file .entry)) .leaves) × (now (length .exit) ≡ left (writeOf (wayOf way) (now (table .entry)) (now (file .entry)) .gives .answer) (writeOf (wayOf way) (now (table .entry)) (now (file .entry)) .gives .length) (now (length .entry))) ⌝ }
 {
-    let made = ach::write(table, file);
+    let made = ach::write(way_of(way), table, file);
     let answer = made.answer;
     if let Answer::Granted = answer {
         *length = made.length;
@@ -87,10 +94,16 @@ pub extern "C" fn ach_write(table: &[u8], file: &mut [u8], length: &mut u64) -> 
 }
 
 #[no_mangle]
-pub extern "C" fn ach_alter(file: &mut [u8], entry: u64, amount: u64, difference: &mut i64) -> u64
-    ensures { λ r. ⌜ (r ≡ codeOfAnswer (alterOf way (now (file .entry)) entry amount .gives .answer)) × (now (file .exit) ≡ alterOf way (now (file .entry)) entry amount .leaves) × (now (difference .exit) ≡ left (alterOf way (now (file .entry)) entry amount .gives .answer) (alterOf way (now (file .entry)) entry amount .gives .difference) (now (difference .entry))) ⌝ }
+pub extern "C" fn ach_alter(
+    way: u64,
+    file: &mut [u8],
+    entry: u64,
+    amount: u64,
+    difference: &mut i64,
+) -> u64
+    ensures { λ r. ⌜ (r ≡ codeOfAnswer (alterOf (wayOf way) (now (file .entry)) entry amount .gives .answer)) × (now (file .exit) ≡ alterOf (wayOf way) (now (file .entry)) entry amount .leaves) × (now (difference .exit) ≡ left (alterOf (wayOf way) (now (file .entry)) entry amount .gives .answer) (alterOf (wayOf way) (now (file .entry)) entry amount .gives .difference) (now (difference .entry))) ⌝ }
 {
-    let altered = ach::alter(file, EntryNo(entry), amount);
+    let altered = ach::alter(way_of(way), file, EntryNo(entry), amount);
     let answer = altered.answer;
     if let Answer::Granted = answer {
         let cents = altered.difference;
@@ -101,10 +114,16 @@ pub extern "C" fn ach_alter(file: &mut [u8], entry: u64, amount: u64, difference
 }
 
 #[no_mangle]
-pub extern "C" fn ach_addendum(file: &[u8], entry: u64, start: &mut u64, length: &mut u64) -> u64
-    ensures { λ r. ⌜ (r ≡ codeOfAnswer (addendumAnswer way (now (file .entry)) entry)) × (now (start .exit) ≡ left (addendumAnswer way (now (file .entry)) entry) (addendumOf way (now (file .entry)) entry .from) (now (start .entry))) × (now (length .exit) ≡ left (addendumAnswer way (now (file .entry)) entry) (addendumOf way (now (file .entry)) entry .size) (now (length .entry))) ⌝ }
+pub extern "C" fn ach_addendum(
+    way: u64,
+    file: &[u8],
+    entry: u64,
+    start: &mut u64,
+    length: &mut u64,
+) -> u64
+    ensures { λ r. ⌜ (r ≡ codeOfAnswer (addendumAnswer (wayOf way) (now (file .entry)) entry)) × (now (start .exit) ≡ left (addendumAnswer (wayOf way) (now (file .entry)) entry) (addendumOf (wayOf way) (now (file .entry)) entry .from) (now (start .entry))) × (now (length .exit) ≡ left (addendumAnswer (wayOf way) (now (file .entry)) entry) (addendumOf (wayOf way) (now (file .entry)) entry .size) (now (length .entry))) ⌝ }
 {
-    let span = ach::asked_span(file, EntryNo(entry));
+    let span = ach::asked_span(way_of(way), file, EntryNo(entry));
     let answer = span.answer;
     if let Answer::Granted = answer {
         *start = span.from as u64;

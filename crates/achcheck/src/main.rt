@@ -1,4 +1,5 @@
 // Checks standard input, one line. More than 64,860 bytes are refused unchecked.
+use layout::Way;
 use libc::STDIN_FILENO;
 
 fn main() {
@@ -8,5 +9,5 @@ fn main() {
         lines::print_refusal(23, 0, 0);
         return;
     }
-    lines::print_checked(ach::check(&buffer[..n]));
+    lines::print_checked(ach::check(Way::Plain, &buffer[..n]));
 }

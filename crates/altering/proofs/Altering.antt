@@ -15,11 +15,11 @@ use Rattle.text.proofs.DecimalLaws.{and-both, both-and, value-render-lt}
 use Rattle.layout.specs.declared.Answer.{Answer}
 use Rattle.layout.specs.declared.Fault.{Fault}
 use Rattle.layout.specs.declared.Refusal.{Refusal}
-use Rattle.rules.specs.declared.Use.{Use}
-use Rattle.rules.specs.declared.Code.{Code}
-use Rattle.rules.specs.Codes.{codeOf, carries, useCarries}
+use Rattle.kinds.specs.declared.Use.{Use}
+use Rattle.kinds.specs.declared.Code.{Code}
+use Rattle.kinds.specs.Codes.{codeOf, carries, useCarries}
 use Rattle.rules.specs.Field.{entryCode, entryAmount, totalLimit}
-use Rattle.records.specs.Run.{checkedOf}
+use Rattle.records.specs.Run.{columnsIn, checkedOf}
 use Rattle.view.specs.View.{Entry, View, entriesOf, sumOver, debitOf, creditOf, amountOf, codeIn, batchControlRecord, fileOf, viewOf}
 use Rattle.view.specs.Sized.{Sized}
 use Rattle.view.specs.Outcome.{refusal, demand, andThen, exists, entryAt, spotOf, entryNumber, batchControlNumber, fileControlNumber, amend, within, limits, addendumAnswer, alterAnswer, altered, alterOf}
@@ -30,7 +30,8 @@ use Rattle.view.proofs.Bridge.{accepted-view}
 use Rattle.view.proofs.Own.{own-entries}
 use Rattle.altering.specs.declared.find.Places.{Places}
 use Rattle.altering.specs.declared.side.Side.{Side}
-use Rattle.altering.specs.Find.{allRecords}
+use Rattle.layout.specs.declared.Way.{Way}
+use Rattle.layout.specs.Ways.{recordBytes}
 use Rattle.altering.specs.There.{There, EntryAt, Found}
 use Rattle.altering.specs.Side.{debitSide, creditSide, batchTotal, sideAnswer, sidePut, sideOutcome, Ordered, Ready}
 use Rattle.altering.proofs.Places.{batch-part}
@@ -45,8 +46,8 @@ asked-first Answer.Granted true none more r e = cc
 asked-first Answer.Granted false none more r e = e
 asked-first (Answer.Refused x) t none more r e = e
 
-pub refused-first : (f : List ℕ) (k amount : ℕ) (r : Refusal) → addendumAnswer 94 f k ≡ Answer.Refused r → Comes (Answer.Refused r) (pos 0) f (alterOf 94 f k amount)
-refused-first f k amount r e = comes-refused _ _ f _ r (asked-first (checkedOf 94 f .answer) (exists (viewOf 94 f) k) _ _ r e)
+pub refused-first : (way : Way) (f : List ℕ) (k amount : ℕ) (r : Refusal) → addendumAnswer way f k ≡ Answer.Refused r → Comes (Answer.Refused r) (pos 0) f (alterOf way f k amount)
+refused-first way f k amount r e = comes-refused _ _ f _ r (asked-first (checkedOf way f .answer) (exists (viewOf way f) k) _ _ r e)
 
 asked-granted : (a : Answer) (t : Bool) (none more : Answer) → a ≡ Answer.Granted → t ≡ true → andThen a (demand t none more) ≡ more
 asked-granted a t none more e h = rw (e, h)
@@ -60,21 +61,21 @@ use-small Use.Prenote amount e = omega (arith, eqb-true amount 0 e)
 
 -- what an alteration relies on of the side that sums g: the batch's total is written in its control, the old amount is in both totals and
 -- moves out of them, and three texts change
-record Sided (f : List ℕ) (k amount : ℕ) (p : Places) (s : Side) (g : Entry → ℕ) : Type 0 where
+record Sided (way : Way) (f : List ℕ) (k amount : ℕ) (p : Places) (s : Side) (g : Entry → ℕ) : Type 0 where
   batchat : s .batchat + 12 ≤ 94
   fileat : s .fileat + 12 ≤ 94
-  text : batchTotal f p s ≡ sumOver g (spotOf (viewOf 94 f) k .batch .entries)
-  inbatch : amountOf (entryAt (viewOf 94 f) k) ≤ sumOver g (spotOf (viewOf 94 f) k .batch .entries)
-  most : sumOver g (entriesOf (viewOf 94 f)) ≤ totalLimit
-  inpart : sumOver g (spotOf (viewOf 94 f) k .batch .entries) ≤ sumOver g (entriesOf (viewOf 94 f))
-  batch : sumOver g (spotOf (amend (viewOf 94 f) k amount) k .batch .entries) + amountOf (entryAt (viewOf 94 f) k)
-      ≡ sumOver g (spotOf (viewOf 94 f) k .batch .entries) + amount
-  whole : sumOver g (entriesOf (amend (viewOf 94 f) k amount)) + amountOf (entryAt (viewOf 94 f) k) ≡ sumOver g (entriesOf (viewOf 94 f)) + amount
-  put : fileOf (amend (viewOf 94 f) k amount)
-      ≡ sets (sets (sets (fileOf (viewOf 94 f))
-      (94 * (entryNumber (spotOf (viewOf 94 f) k) - 1) + 29) (render 10 amount))
-      (94 * (batchControlNumber (spotOf (viewOf 94 f) k) - 1) + s .batchat) (render 12 (sumOver g (spotOf (amend (viewOf 94 f) k amount) k .batch .entries))))
-      (94 * (fileControlNumber (viewOf 94 f) - 1) + s .fileat) (render 12 (sumOver g (entriesOf (amend (viewOf 94 f) k amount))))
+  text : batchTotal way f p s ≡ sumOver g (spotOf (viewOf way f) k .batch .entries)
+  inbatch : amountOf (entryAt (viewOf way f) k) ≤ sumOver g (spotOf (viewOf way f) k .batch .entries)
+  most : sumOver g (entriesOf (viewOf way f)) ≤ totalLimit
+  inpart : sumOver g (spotOf (viewOf way f) k .batch .entries) ≤ sumOver g (entriesOf (viewOf way f))
+  batch : sumOver g (spotOf (amend (viewOf way f) k amount) k .batch .entries) + amountOf (entryAt (viewOf way f) k)
+      ≡ sumOver g (spotOf (viewOf way f) k .batch .entries) + amount
+  whole : sumOver g (entriesOf (amend (viewOf way f) k amount)) + amountOf (entryAt (viewOf way f) k) ≡ sumOver g (entriesOf (viewOf way f)) + amount
+  put : fileOf way (amend (viewOf way f) k amount)
+      ≡ sets (sets (sets (fileOf way (viewOf way f))
+      (recordBytes way * (entryNumber (spotOf (viewOf way f) k) - 1) + 29) (render 10 amount))
+      (recordBytes way * (batchControlNumber (spotOf (viewOf way f) k) - 1) + s .batchat) (render 12 (sumOver g (spotOf (amend (viewOf way f) k amount) k .batch .entries))))
+      (recordBytes way * (fileControlNumber (viewOf way f) - 1) + s .fileat) (render 12 (sumOver g (entriesOf (amend (viewOf way f) k amount))))
 
 -- the same three texts, by equal numbers
 three-same : {f g : List ℕ} {a a′ b b′ c c′ y y′ z z′ : ℕ} (x : ℕ) → f ≡ g → a ≡ a′ → b ≡ b′ → c ≡ c′ → y ≡ y′ → z ≡ z′
@@ -89,35 +90,35 @@ tried y z m n s =
 tried-same : {y y′ m m′ n n′ : ℕ} (z : ℕ) (s : Side) → y ≡ y′ → m ≡ m′ → n ≡ n′ → tried y z m n s ≡ tried y′ z m′ n′ s
 tried-same z s ey em en = rw (ey, em, en)
 
-module _ (f : List ℕ) (k amount : ℕ) (t : There f k) (p : Places) (at : Found f k p) where
+module _ (way : Way) (f : List ℕ) (k amount : ℕ) (t : There way f k) (p : Places) (at : Found way f k p) where
   -- code and amount, as they are read
-  code-read : codeOf (entryCode (getD (allRecords f) (p .entry) [])) ≡ codeOf (codeIn (entryAt (viewOf 94 f) k))
-  code-read = ap (λ r. codeOf (entryCode r)) (entry-text f k t (p .entry) (found-entry f k t p at))
+  code-read : codeOf (entryCode (getD (columnsIn way f) (p .entry) [])) ≡ codeOf (codeIn (entryAt (viewOf way f) k))
+  code-read = ap (λ r. codeOf (entryCode r)) (entry-text way f k t (p .entry) (found-entry way f k t p at))
 
-  amount-read : entryAmount (getD (allRecords f) (p .entry) []) ≡ amountOf (entryAt (viewOf 94 f) k)
-  amount-read = ap entryAmount (entry-text f k t (p .entry) (found-entry f k t p at))
+  amount-read : entryAmount (getD (columnsIn way f) (p .entry) []) ≡ amountOf (entryAt (viewOf way f) k)
+  amount-read = ap entryAmount (entry-text way f k t (p .entry) (found-entry way f k t p at))
 
   -- 14 comes next, and then the limits
-  there-answer : (b : Bool) (code : Code) → codeOf (codeIn (entryAt (viewOf 94 f) k)) ≡ code → carries code amount ≡ b
-      → alterAnswer 94 f k amount
-      ≡ demand b (refusal Fault.Amount (entryNumber (spotOf (viewOf 94 f) k)) 6) (limits (viewOf 94 f) (spotOf (viewOf 94 f) k) code (amountOf (entryAt (viewOf 94 f) k)) amount)
+  there-answer : (b : Bool) (code : Code) → codeOf (codeIn (entryAt (viewOf way f) k)) ≡ code → carries code amount ≡ b
+      → alterAnswer way f k amount
+      ≡ demand b (refusal Fault.Amount (entryNumber (spotOf (viewOf way f) k)) 6) (limits (viewOf way f) (spotOf (viewOf way f) k) code (amountOf (entryAt (viewOf way f) k)) amount)
   there-answer b code c h =
-      let w = viewOf 94 f in
-      asked-granted (checkedOf 94 f .answer) (exists w k) _ _ (t .accepted) (both-and (le-leb 1 k (t .first)) (le-leb k (length (entriesOf w)) (t .last)))
+      let w = viewOf way f in
+      asked-granted (checkedOf way f .answer) (exists w k) _ _ (t .accepted) (both-and (le-leb 1 k (t .first)) (le-leb k (length (entriesOf w)) (t .last)))
       ∙ ap (λ x. demand (carries x amount) (refusal Fault.Amount (entryNumber (spotOf w k)) 6) (limits w (spotOf w k) x (amountOf (entryAt w k)) amount)) c
       ∙ ap (λ x. demand x (refusal Fault.Amount (entryNumber (spotOf w k)) 6) (limits w (spotOf w k) code (amountOf (entryAt w k)) amount)) h
 
-  pub amount-refused : (code : Code) → code ≡ codeOf (entryCode (getD (allRecords f) (p .entry) [])) → carries code amount ≡ false
-      → Comes (refusal Fault.Amount (p .entry + 1) 6) (pos 0) f (alterOf 94 f k amount)
+  pub amount-refused : (code : Code) → code ≡ codeOf (entryCode (getD (columnsIn way f) (p .entry) [])) → carries code amount ≡ false
+      → Comes (refusal Fault.Amount (p .entry + 1) 6) (pos 0) f (alterOf way f k amount)
   amount-refused code c h =
       comes-refused _ _ f _ _ (there-answer false code (sym (c ∙ code-read)) h ∙ ap (λ n. refusal Fault.Amount n 6) (sym (at .entry)))
 
-  module _ (s : Side) (g : Entry → ℕ) (d : Sided f k amount p s g) where
-    side-ready : amount < 10000000000 → Ready f p s (sumOver g (entriesOf (viewOf 94 f))) (amountOf (entryAt (viewOf 94 f) k)) amount
+  module _ (s : Side) (g : Entry → ℕ) (d : Sided way f k amount p s g) where
+    side-ready : amount < 10000000000 → Ready way f p s (sumOver g (entriesOf (viewOf way f))) (amountOf (entryAt (viewOf way f) k)) amount
     side-ready h =
         record {
           ordered = record { first = at .first; second = at .second; inside = at .inside; batchat = d .batchat; fileat = d .fileat };
-          few = few-records f k t p at;
+          few = few-records way f k t p at;
           inbatch = omega (arith, d .text, d .inbatch);
           batch = omega (arith, d .text, d .inpart, d .most);
           intotal = omega (arith, d .inbatch, d .inpart);
@@ -125,83 +126,86 @@ module _ (f : List ℕ) (k amount : ℕ) (t : There f k) (p : Places) (at : Foun
           new = h;
         }
 
-    side-put : sidePut f p s amount (batchTotal f p s - amountOf (entryAt (viewOf 94 f) k) + amount) (sumOver g (entriesOf (viewOf 94 f)) - amountOf (entryAt (viewOf 94 f) k) + amount)
-        ≡ fileOf (amend (viewOf 94 f) k amount)
+    same : (n i o : ℕ) → i + 1 ≡ n → recordBytes way * (n - 1) + o ≡ recordBytes way * i + o
+    same n i o e = let less : n - 1 ≡ i = omega (arith, e) in rw less
+
+    side-put : sidePut way f p s amount (batchTotal way f p s - amountOf (entryAt (viewOf way f) k) + amount) (sumOver g (entriesOf (viewOf way f)) - amountOf (entryAt (viewOf way f) k) + amount)
+        ≡ fileOf way (amend (viewOf way f) k amount)
     side-put =
-        sym (d .put ∙ three-same amount (sym (accepted-view f (t .accepted) .form)) (omega (arith, at .entry)) (omega (arith, at .control)) (omega (arith, at .last))
+        sym (d .put ∙ three-same amount (sym (accepted-view way f (t .accepted) .form)) (same (entryNumber (spotOf (viewOf way f) k)) (p .entry) 29 (at .entry)) (same (batchControlNumber (spotOf (viewOf way f) k)) (p .control) (s .batchat) (at .control)) (same (fileControlNumber (viewOf way f)) (p .last) (s .fileat) (at .last))
         (omega (arith, d .batch, d .text, d .inbatch)) (omega (arith, d .whole, d .inbatch, d .inpart)))
 
-    side-alters : (code : Code) → codeOf (codeIn (entryAt (viewOf 94 f) k)) ≡ code → carries code amount ≡ true
-        → limits (viewOf 94 f) (spotOf (viewOf 94 f) k) code (amountOf (entryAt (viewOf 94 f) k)) amount
-        ≡ tried (sumOver g (spotOf (viewOf 94 f) k .batch .entries) - amountOf (entryAt (viewOf 94 f) k) + amount) (sumOver g (entriesOf (viewOf 94 f)) - amountOf (entryAt (viewOf 94 f) k) + amount)
-        (batchControlNumber (spotOf (viewOf 94 f) k)) (fileControlNumber (viewOf 94 f)) s
-        → sideOutcome f p s (sumOver g (entriesOf (viewOf 94 f))) (amountOf (entryAt (viewOf 94 f) k)) amount ≡ alterOf 94 f k amount
+    side-alters : (code : Code) → codeOf (codeIn (entryAt (viewOf way f) k)) ≡ code → carries code amount ≡ true
+        → limits (viewOf way f) (spotOf (viewOf way f) k) code (amountOf (entryAt (viewOf way f) k)) amount
+        ≡ tried (sumOver g (spotOf (viewOf way f) k .batch .entries) - amountOf (entryAt (viewOf way f) k) + amount) (sumOver g (entriesOf (viewOf way f)) - amountOf (entryAt (viewOf way f) k) + amount)
+        (batchControlNumber (spotOf (viewOf way f) k)) (fileControlNumber (viewOf way f)) s
+        → sideOutcome way f p s (sumOver g (entriesOf (viewOf way f))) (amountOf (entryAt (viewOf way f) k)) amount ≡ alterOf way f k amount
     side-alters code c h l =
-        ap₂ (λ x y. altered x (pos amount -ℤ pos (amountOf (entryAt (viewOf 94 f) k))) y f)
-        (tried-same (sumOver g (entriesOf (viewOf 94 f)) - amountOf (entryAt (viewOf 94 f) k) + amount) s (ap (λ n. n - amountOf (entryAt (viewOf 94 f) k) + amount) (d .text)) (at .control) (at .last) ∙ sym (there-answer true code c h ∙ l)) side-put
+        ap₂ (λ x y. altered x (pos amount -ℤ pos (amountOf (entryAt (viewOf way f) k))) y f)
+        (tried-same (sumOver g (entriesOf (viewOf way f)) - amountOf (entryAt (viewOf way f) k) + amount) s (ap (λ n. n - amountOf (entryAt (viewOf way f) k) + amount) (d .text)) (at .control) (at .last) ∙ sym (there-answer true code c h ∙ l)) side-put
 
   -- ---- the two sides
 
-  sized : Sized (viewOf 94 f)
-  sized = accepted-view f (t .accepted) .sized
+  sized : Sized (viewOf way f)
+  sized = accepted-view way f (t .accepted) .sized
 
-  controls : BatchControlFields (spotOf (viewOf 94 f) k .batch)
-  controls = batch-control-fields (spotOf (viewOf 94 f) k .batch) (spot-sized (viewOf 94 f) k 0 sized (t .first) (t .last) (lit< tt) .long)
+  controls : BatchControlFields (spotOf (viewOf way f) k .batch)
+  controls = batch-control-fields (spotOf (viewOf way f) k .batch) (spot-sized (viewOf way f) k 0 sized (t .first) (t .last) (lit< tt) .long)
 
-  debit-sided : (u : Use) → codeOf (codeIn (entryAt (viewOf 94 f) k)) ≡ Code.Debit u → amount < 10000000000 → Sided f k amount p debitSide debitOf
+  debit-sided : (u : Use) → codeOf (codeIn (entryAt (viewOf way f) k)) ≡ Code.Debit u → amount < 10000000000 → Sided way f k amount p debitSide debitOf
   debit-sided u c h =
-      let w = viewOf 94 f in
+      let w = viewOf way f in
       let es = spotOf w k .batch .entries in
-      let most = accepted-view f (t .accepted) .keeps .within .debit in
+      let most = accepted-view way f (t .accepted) .keeps .within .debit in
       let inpart = batch-part w k (t .first) (t .last) debitOf in
       record {
         batchat = lit≤ tt;
         fileat = lit≤ tt;
-        text = ap value (total-text f k t p at 20 (lit≤ tt) ∙ controls .debit) ∙ value-render-lt 12 (sumOver debitOf es) (omega (arith, inpart, most));
+        text = ap value (total-text way f k t p at 20 (lit≤ tt) ∙ controls .debit) ∙ value-render-lt 12 (sumOver debitOf es) (omega (arith, inpart, most));
         inbatch = omega (arith, debit-moved (batch-moved w k 0 sized (t .first) (t .last) (lit< tt)) u c .0);
         most = most;
         inpart = inpart;
         batch = debit-moved (batch-moved w k amount sized (t .first) (t .last) h) u c .0;
         whole = debit-moved (file-moved w k amount sized (t .first) (t .last) h) u c .0;
-        put = file-amended-debit w k amount sized (t .first) (t .last) h u c;
+        put = file-amended-debit w k amount sized (t .first) (t .last) h way u c;
       }
 
-  credit-sided : (u : Use) → codeOf (codeIn (entryAt (viewOf 94 f) k)) ≡ Code.Credit u → amount < 10000000000 → Sided f k amount p creditSide creditOf
+  credit-sided : (u : Use) → codeOf (codeIn (entryAt (viewOf way f) k)) ≡ Code.Credit u → amount < 10000000000 → Sided way f k amount p creditSide creditOf
   credit-sided u c h =
-      let w = viewOf 94 f in
+      let w = viewOf way f in
       let es = spotOf w k .batch .entries in
-      let most = accepted-view f (t .accepted) .keeps .within .credit in
+      let most = accepted-view way f (t .accepted) .keeps .within .credit in
       let inpart = batch-part w k (t .first) (t .last) creditOf in
       record {
         batchat = lit≤ tt;
         fileat = lit≤ tt;
-        text = ap value (total-text f k t p at 32 (lit≤ tt) ∙ controls .credit) ∙ value-render-lt 12 (sumOver creditOf es) (omega (arith, inpart, most));
+        text = ap value (total-text way f k t p at 32 (lit≤ tt) ∙ controls .credit) ∙ value-render-lt 12 (sumOver creditOf es) (omega (arith, inpart, most));
         inbatch = omega (arith, credit-moved (batch-moved w k 0 sized (t .first) (t .last) (lit< tt)) u c .1);
         most = most;
         inpart = inpart;
         batch = credit-moved (batch-moved w k amount sized (t .first) (t .last) h) u c .1;
         whole = credit-moved (file-moved w k amount sized (t .first) (t .last) h) u c .1;
-        put = file-amended-credit w k amount sized (t .first) (t .last) h u c;
+        put = file-amended-credit w k amount sized (t .first) (t .last) h way u c;
       }
 
   -- an amount that the code carries is exchanged on the code's side: that can be done, and is the alteration
   abbrev pub Alters : Side → ℕ → ℕ → Type 0
-  Alters s total old = Ready f p s total old amount × (sideOutcome f p s total old amount ≡ alterOf 94 f k amount)
+  Alters s total old = Ready way f p s total old amount × (sideOutcome way f p s total old amount ≡ alterOf way f k amount)
 
-  module _ (code : Code) (s : Side) (total old : ℕ) (u : Use) (c : code ≡ codeOf (entryCode (getD (allRecords f) (p .entry) [])))
-      (o : old ≡ entryAmount (getD (allRecords f) (p .entry) [])) (carried : carries code amount ≡ true) where
-    pub debit-alters : code ≡ Code.Debit u → s ≡ debitSide → total ≡ checkedOf 94 f .debit → Alters s total old
+  module _ (code : Code) (s : Side) (total old : ℕ) (u : Use) (c : code ≡ codeOf (entryCode (getD (columnsIn way f) (p .entry) [])))
+      (o : old ≡ entryAmount (getD (columnsIn way f) (p .entry) [])) (carried : carries code amount ≡ true) where
+    pub debit-alters : code ≡ Code.Debit u → s ≡ debitSide → total ≡ checkedOf way f .debit → Alters s total old
     debit-alters e i n =
-        let told : codeOf (codeIn (entryAt (viewOf 94 f) k)) ≡ Code.Debit u = sym (c ∙ code-read) ∙ e in
+        let told : codeOf (codeIn (entryAt (viewOf way f) k)) ≡ Code.Debit u = sym (c ∙ code-read) ∙ e in
         let can : carries (Code.Debit u) amount ≡ true = ap (λ x. carries x amount) (sym e) ∙ carried in
         let d = debit-sided u told (use-small u amount can) in
-        rw (i, n ∙ own-entries f (t .accepted) .debit, o ∙ amount-read)
+        rw (i, n ∙ own-entries way f (t .accepted) .debit, o ∙ amount-read)
         (side-ready debitSide debitOf d (use-small u amount can), side-alters debitSide debitOf d (Code.Debit u) told can refl)
 
-    pub credit-alters : code ≡ Code.Credit u → s ≡ creditSide → total ≡ checkedOf 94 f .credit → Alters s total old
+    pub credit-alters : code ≡ Code.Credit u → s ≡ creditSide → total ≡ checkedOf way f .credit → Alters s total old
     credit-alters e i n =
-        let told : codeOf (codeIn (entryAt (viewOf 94 f) k)) ≡ Code.Credit u = sym (c ∙ code-read) ∙ e in
+        let told : codeOf (codeIn (entryAt (viewOf way f) k)) ≡ Code.Credit u = sym (c ∙ code-read) ∙ e in
         let can : carries (Code.Credit u) amount ≡ true = ap (λ x. carries x amount) (sym e) ∙ carried in
         let d = credit-sided u told (use-small u amount can) in
-        rw (i, n ∙ own-entries f (t .accepted) .credit, o ∙ amount-read)
+        rw (i, n ∙ own-entries way f (t .accepted) .credit, o ∙ amount-read)
         (side-ready creditSide creditOf d (use-small u amount can), side-alters creditSide creditOf d (Code.Credit u) told can refl)

@@ -1,14 +1,9 @@
 -- Records by their first byte.
-use Prim.Native.Nat.{ℕ, suc, _+_, _-_, _/_}
+use Prim.Native.Nat.{ℕ, _+_, _-_}
 use mathlib.Core.List.{List, [], _∷_}
 use lib.Dec.{eqb}
-use lib.ListN.{length, getD}
+use lib.ListN.{getD}
 use Rattle.text.specs.Decimal.{pick}
-use Rattle.text.specs.Rows.{rows}
-
--- a file's records
-abbrev pub allRecords : List ℕ → List (List ℕ)
-allRecords f = rows 94 (length f / 94) f
 
 -- how many records begin with byte b
 unfoldable pub countOf : ℕ → List (List ℕ) → ℕ

@@ -14,6 +14,8 @@ use Rattle.rules.specs.Field.{totalLimit}
 use Rattle.view.specs.Outcome.{Outcome, refusal, demand, altered}
 use Rattle.altering.specs.declared.find.Places.{Places}
 use Rattle.altering.specs.declared.side.Side.{Side}
+use Rattle.layout.specs.declared.Way.{Way}
+use Rattle.layout.specs.Ways.{recordBytes}
 
 abbrev pub debitSide : Side
 debitSide =
@@ -34,8 +36,8 @@ creditSide =
     }
 
 -- the total in the batch's control
-abbrev pub batchTotal : List ℕ → Places → Side → ℕ
-batchTotal f p s = value (take 12 (drop (94 * p .control + s .batchat) f))
+abbrev pub batchTotal : Way → List ℕ → Places → Side → ℕ
+batchTotal way f p s = value (take 12 (drop (recordBytes way * p .control + s .batchat) f))
 
 -- "20 at the batch's control, 20 at the file's", of the new totals
 abbrev pub sideAnswer : Places → Side → ℕ → ℕ → Answer
@@ -44,34 +46,34 @@ sideAnswer p s batch whole =
     (demand (leb whole totalLimit) (refusal Fault.Limit (p .last + 1) (s .filefield)) Answer.Granted)
 
 -- columns 30-39 of the entry, the batch's total and the file's
-abbrev pub sidePut : List ℕ → Places → Side → ℕ → ℕ → ℕ → List ℕ
-sidePut f p s amount batch whole =
+abbrev pub sidePut : Way → List ℕ → Places → Side → ℕ → ℕ → ℕ → List ℕ
+sidePut way f p s amount batch whole =
     sets (sets (sets f
-    (94 * p .entry + 29) (render 10 amount))
-    (94 * p .control + s .batchat) (render 12 batch))
-    (94 * p .last + s .fileat) (render 12 whole)
+    (recordBytes way * p .entry + 29) (render 10 amount))
+    (recordBytes way * p .control + s .batchat) (render 12 batch))
+    (recordBytes way * p .last + s .fileat) (render 12 whole)
 
 -- the old amount goes out of both totals, and the new one comes in
-abbrev pub sideOutcome : List ℕ → Places → Side → ℕ → ℕ → ℕ → Outcome Altered
-sideOutcome f p s total old amount =
-    altered (sideAnswer p s (batchTotal f p s - old + amount) (total - old + amount))
+abbrev pub sideOutcome : Way → List ℕ → Places → Side → ℕ → ℕ → ℕ → Outcome Altered
+sideOutcome way f p s total old amount =
+    altered (sideAnswer p s (batchTotal way f p s - old + amount) (total - old + amount))
     (pos amount -ℤ pos old)
-    (sidePut f p s amount (batchTotal f p s - old + amount) (total - old + amount)) f
+    (sidePut way f p s amount (batchTotal way f p s - old + amount) (total - old + amount)) f
 
 -- the three records lie in n bytes, and the totals in their records
-pub record Ordered (n : ℕ) (p : Places) (s : Side) : Type 0 where
+pub record Ordered (way : Way) (n : ℕ) (p : Places) (s : Side) : Type 0 where
   pub first : p .entry < p .control
   pub second : p .control < p .last
-  pub inside : 94 * (p .last + 1) ≤ n
+  pub inside : recordBytes way * (p .last + 1) ≤ n
   pub batchat : s .batchat + 12 ≤ 94
   pub fileat : s .fileat + 12 ≤ 94
 
 -- both totals have the old amount in them, and no number is large
-pub record Ready (f : List ℕ) (p : Places) (s : Side) (total old amount : ℕ) : Type 0 where
-  pub ordered : Ordered (length f) p s
+pub record Ready (way : Way) (f : List ℕ) (p : Places) (s : Side) (total old amount : ℕ) : Type 0 where
+  pub ordered : Ordered way (length f) p s
   pub few : p .last < 1000000
-  pub inbatch : old ≤ batchTotal f p s
-  pub batch : batchTotal f p s ≤ totalLimit
+  pub inbatch : old ≤ batchTotal way f p s
+  pub batch : batchTotal way f p s ≤ totalLimit
   pub intotal : old ≤ total
   pub whole : total ≤ totalLimit
   pub new : amount < 10000000000

@@ -1,4 +1,6 @@
 // One amount altered in place, and an entry's addendum as a part of the file itself.
+use kinds::Code;
+use kinds::codes;
 use layout::Altered;
 use layout::Answer;
 use layout::Checked;
@@ -6,8 +8,7 @@ use layout::EntryNo;
 use layout::Fault;
 use layout::RecordNo;
 use layout::Refusal;
-use rules::Code;
-use rules::codes;
+use layout::Way;
 ghost use mathlib.Core.Path.{_≡_};
 ghost use lib.ListN.{take, drop};
 ghost use Rattle.view.specs.Outcome.{refusal, addendumAnswer, addendumOf, alterOf};
@@ -55,22 +56,23 @@ fn asked(checked: Checked, k: u64) -> Answer
 }
 
 // Why there is no addendum to hand back, if the question itself is refused.
-pub fn addendum_answer(file: &[u8], entry: EntryNo) -> Answer
-    ensures { λ r. ⌜ r ≡ addendumAnswer 94 (now (file .entry)) (entry .0) ⌝ }
+pub fn addendum_answer(way: Way, file: &[u8], entry: EntryNo) -> Answer
+    ensures { λ r. ⌜ r ≡ addendumAnswer way (now (file .entry)) (entry .0) ⌝ }
 {
     let k = entry.0;
-    asked(accept::check(file), k)
+    asked(accept::check(way, file), k)
 }
 
 // Answer and place in one, for callers that cannot take a part of a slice: the file is checked once.
-pub fn asked_span(file: &[u8], entry: EntryNo) -> AskedSpan
-    ensures { λ r. ⌜ (r .answer ≡ addendumAnswer 94 (now (file .entry)) (entry .0)) × (r .from ≡ addendumOf 94 (now (file .entry)) (entry .0) .from) × (r .size ≡ addendumOf 94 (now (file .entry)) (entry .0) .size) ⌝ }
+pub fn asked_span(way: Way, file: &[u8], entry: EntryNo) -> AskedSpan
+    ensures { λ r. ⌜ (r .answer ≡ addendumAnswer way (now (file .entry)) (entry .0)) × (r .from ≡ addendumOf way (now (file .entry)) (entry .0) .from) × (r .size ≡ addendumOf way (now (file .entry)) (entry .0) .size) ⌝ }
 {
     let k = entry.0;
-    let answer = addendum_answer(file, entry);
+    let answer = addendum_answer(way, file, entry);
     match answer {
         Answer::Granted => {
-            let at = 94 * find::entry_at(file, k);
+            let wide = layout::record_bytes(way);
+            let at = wide * find::entry_at(way, file, k);
             // column 79 says whether a record 7 follows
             if file[at + 78] != 49 {
                 return AskedSpan {
@@ -81,7 +83,7 @@ pub fn asked_span(file: &[u8], entry: EntryNo) -> AskedSpan
             }
             AskedSpan {
                 answer: Answer::Granted,
-                from: at + 97,
+                from: at + wide + 3,
                 size: 80,
             }
         }
@@ -94,23 +96,23 @@ pub fn asked_span(file: &[u8], entry: EntryNo) -> AskedSpan
 }
 
 // An entry's addendum, columns 4-83 of the lent file itself; the empty part at its start where there is none.
-pub fn addendum(file: &[u8], entry: EntryNo) -> &[u8]
-    ensures { λ r. ⌜ now r ≡ take (addendumOf 94 (now (file .entry)) (entry .0) .size) (drop (addendumOf 94 (now (file .entry)) (entry .0) .from) (now (file .entry))) ⌝ }
+pub fn addendum(way: Way, file: &[u8], entry: EntryNo) -> &[u8]
+    ensures { λ r. ⌜ now r ≡ take (addendumOf way (now (file .entry)) (entry .0) .size) (drop (addendumOf way (now (file .entry)) (entry .0) .from) (now (file .entry))) ⌝ }
 {
-    let span = asked_span(file, entry);
+    let span = asked_span(way, file, entry);
     let from = span.from;
     let end = from + span.size;
     &file[from..end]
 }
 
 // The amount of an entry that there is; debit and credit are the file's totals.
-fn alter_there(file: &mut [u8], k: u64, amount: u64, debit: u64, credit: u64) -> Altered
-    requires { ⌜ There (now file) k × (debit ≡ checkedOf 94 (now file) .debit) × (credit ≡ checkedOf 94 (now file) .credit) ⌝ }
-    ensures { λ r. ⌜ (r ≡ alterOf 94 (now (file .entry)) k amount .gives) × (now (file .exit) ≡ alterOf 94 (now (file .entry)) k amount .leaves) ⌝ }
+fn alter_there(way: Way, file: &mut [u8], k: u64, amount: u64, debit: u64, credit: u64) -> Altered
+    requires { ⌜ There way (now file) k × (debit ≡ checkedOf way (now file) .debit) × (credit ≡ checkedOf way (now file) .credit) ⌝ }
+    ensures { λ r. ⌜ (r ≡ alterOf way (now (file .entry)) k amount .gives) × (now (file .exit) ≡ alterOf way (now (file .entry)) k amount .leaves) ⌝ }
 {
-    let places = find::locate(file, k);
+    let places = find::locate(way, file, k);
     let at = places.entry;
-    let said = side::entry_said(file, at);
+    let said = side::entry_said(way, file, at);
     let code = said.code;
     let old = said.amount;
     if !codes::carries(code, amount) {
@@ -125,20 +127,22 @@ fn alter_there(file: &mut [u8], k: u64, amount: u64, debit: u64, credit: u64) ->
             answer: refused(Fault::Amount, at as u64 + 1, 6),
             difference: 0,
         },
-        Code::Credit(_) => { side::exchange(file, places, side::credits(), credit, old, amount) }
-        Code::Debit(_) => { side::exchange(file, places, side::debits(), debit, old, amount) }
+        Code::Credit(_) => {
+            side::exchange(way, file, places, side::credits(), credit, old, amount)
+        }
+        Code::Debit(_) => { side::exchange(way, file, places, side::debits(), debit, old, amount) }
     }
 }
 
 // One entry's amount altered, with the totals of its side; a refusal leaves every byte as it was.
-pub fn alter(file: &mut [u8], entry: EntryNo, amount: u64) -> Altered
-    ensures { λ r. ⌜ (r ≡ alterOf 94 (now (file .entry)) (entry .0) amount .gives) × (now (file .exit) ≡ alterOf 94 (now (file .entry)) (entry .0) amount .leaves) ⌝ }
+pub fn alter(way: Way, file: &mut [u8], entry: EntryNo, amount: u64) -> Altered
+    ensures { λ r. ⌜ (r ≡ alterOf way (now (file .entry)) (entry .0) amount .gives) × (now (file .exit) ≡ alterOf way (now (file .entry)) (entry .0) amount .leaves) ⌝ }
 {
     let k = entry.0;
-    let checked = accept::check(file);
+    let checked = accept::check(way, file);
     let answer = asked(checked, k);
     match answer {
-        Answer::Granted => { alter_there(file, k, amount, checked.debit, checked.credit) }
+        Answer::Granted => { alter_there(way, file, k, amount, checked.debit, checked.credit) }
         Answer::Refused(r) => Altered {
             answer: Answer::Refused(r),
             difference: 0,

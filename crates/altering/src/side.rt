@@ -1,10 +1,11 @@
 // The amount of an entry, and the totals of the side that it is on: read, tried against the limit, and written.
 use crate::find::Places;
+use kinds::Code;
+use kinds::codes;
 use layout::Altered;
 use layout::Answer;
 use layout::Fault;
-use rules::Code;
-use rules::codes;
+use layout::Way;
 use rules::near;
 ghost use Prim.Native.Nat.{_+_, _*_, _≤_, _<_};
 ghost use mathlib.Core.Path.{_≡_};
@@ -13,9 +14,10 @@ ghost use lib.IntN.{pos, _-ℤ_};
 ghost use lib.ListN.{length, getD};
 ghost use lib.Seq.{sets};
 ghost use Rattle.text.specs.Decimal.{render};
-ghost use Rattle.rules.specs.Codes.{codeOf};
+ghost use Rattle.layout.specs.Ways.{recordBytes};
+ghost use Rattle.kinds.specs.Codes.{codeOf};
+ghost use Rattle.records.specs.Run.{columnsIn};
 ghost use Rattle.rules.specs.Field.{entryCode, entryAmount};
-ghost use Rattle.altering.specs.Find.{allRecords};
 ghost use Rattle.altering.specs.Side.{debitSide, creditSide, batchTotal, sideAnswer, sidePut, sideOutcome, Ordered, Ready};
 
 const LIMIT: u64 = 999_999_999_999;
@@ -57,11 +59,11 @@ pub(crate) fn credits() -> Side
 }
 
 // The code and the amount of the record 6 at this index.
-pub(crate) fn entry_said(file: &[u8], i: usize) -> Said
-    requires { ⌜ 94 * (i + 1) ≤ length (now file) ⌝ }
-    ensures { λ r. ⌜ (r .code ≡ codeOf (entryCode (getD (allRecords (now (file .entry))) i []))) × (r .amount ≡ entryAmount (getD (allRecords (now (file .entry))) i [])) ⌝ }
+pub(crate) fn entry_said(way: Way, file: &[u8], i: usize) -> Said
+    requires { ⌜ recordBytes way * (i + 1) ≤ length (now file) ⌝ }
+    ensures { λ r. ⌜ (r .code ≡ codeOf (entryCode (getD (columnsIn way (now (file .entry))) i []))) × (r .amount ≡ entryAmount (getD (columnsIn way (now (file .entry))) i [])) ⌝ }
 {
-    let at = 94 * i;
+    let at = layout::record_bytes(way) * i;
     let rec = &file[at..at + 94];
     Said {
         code: codes::code_of(near::entry_code(rec)),
@@ -70,11 +72,11 @@ pub(crate) fn entry_said(file: &[u8], i: usize) -> Said
 }
 
 // The total that the batch's control has for this side.
-fn batch_total(file: &[u8], places: Places, side: Side) -> u64
-    requires { ⌜ Ordered (length (now file)) places side ⌝ }
-    ensures { λ r. ⌜ r ≡ batchTotal (now (file .entry)) places side ⌝ }
+fn batch_total(way: Way, file: &[u8], places: Places, side: Side) -> u64
+    requires { ⌜ Ordered way (length (now file)) places side ⌝ }
+    ensures { λ r. ⌜ r ≡ batchTotal way (now (file .entry)) places side ⌝ }
 {
-    let at = 94 * places.control + side.batchat;
+    let at = layout::record_bytes(way) * places.control + side.batchat;
     text::number(&file[at..at + 12])
 }
 
@@ -102,13 +104,14 @@ fn put_at(file: &mut [u8], at: usize, width: usize, n: u64)
 }
 
 // The amount and the two totals of its side: no other byte is written.
-fn put(file: &mut [u8], places: Places, side: Side, amount: u64, batch: u64, whole: u64)
-    requires { ⌜ Ordered (length (now file)) places side ⌝ }
-    ensures { λ _. ⌜ now (file .exit) ≡ sidePut (now (file .entry)) places side amount batch whole ⌝ }
+fn put(way: Way, file: &mut [u8], places: Places, side: Side, amount: u64, batch: u64, whole: u64)
+    requires { ⌜ Ordered way (length (now file)) places side ⌝ }
+    ensures { λ _. ⌜ now (file .exit) ≡ sidePut way (now (file .entry)) places side amount batch whole ⌝ }
 {
-    put_at(file, 94 * places.entry + 29, 10, amount);
-    put_at(file, 94 * places.control + side.batchat, 12, batch);
-    put_at(file, 94 * places.last + side.fileat, 12, whole);
+    let wide = layout::record_bytes(way);
+    put_at(file, wide * places.entry + 29, 10, amount);
+    put_at(file, wide * places.control + side.batchat, 12, batch);
+    put_at(file, wide * places.last + side.fileat, 12, whole);
 }
 
 // The new amount less the old.
@@ -121,6 +124,7 @@ fn difference(new: u64, old: u64) -> i64
 
 // An amount that the entry may carry, put in if the totals stay within the limit: the old amount goes first.
 pub(crate) fn exchange(
+    way: Way,
     file: &mut [u8],
     places: Places,
     side: Side,
@@ -128,15 +132,15 @@ pub(crate) fn exchange(
     old: u64,
     amount: u64,
 ) -> Altered
-    requires { ⌜ Ready (now file) places side total old amount ⌝ }
-    ensures { λ r. ⌜ (r ≡ sideOutcome (now (file .entry)) places side total old amount .gives) × (now (file .exit) ≡ sideOutcome (now (file .entry)) places side total old amount .leaves) ⌝ }
+    requires { ⌜ Ready way (now file) places side total old amount ⌝ }
+    ensures { λ r. ⌜ (r ≡ sideOutcome way (now (file .entry)) places side total old amount .gives) × (now (file .exit) ≡ sideOutcome way (now (file .entry)) places side total old amount .leaves) ⌝ }
 {
-    let batch = batch_total(file, places, side) - old + amount;
+    let batch = batch_total(way, file, places, side) - old + amount;
     let whole = total - old + amount;
     let answer = limits(places, side, batch, whole);
     match answer {
         Answer::Granted => {
-            put(file, places, side, amount, batch, whole);
+            put(way, file, places, side, amount, batch, whole);
             Altered {
                 answer: Answer::Granted,
                 difference: difference(amount, old),

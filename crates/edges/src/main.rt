@@ -14,7 +14,7 @@ fn check_file(index: usize) {
     let mut buffer = io::large_buffer();
     let n = io::read_full(fd, &mut buffer);
     libc::close(fd);
-    lines::print_checked(ach::check(&buffer[..n]));
+    lines::print_checked(ach::check(layout::Way::Plain, &buffer[..n]));
 }
 
 fn main() {

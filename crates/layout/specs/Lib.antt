@@ -1,3 +1,4 @@
 pub mod Fields
 pub mod Fits
 pub mod Paper
+pub mod Ways

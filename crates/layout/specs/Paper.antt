@@ -55,6 +55,8 @@ numberOf Fault.Room = 23
 numberOf Fault.Shape = 24
 -- no such entry number
 numberOf Fault.NoEntry = 25
+-- a record not followed by CR LF
+numberOf Fault.LineEnd = 26
 
 -- what the paper prints of an answer: number, record, field; all 0 where it is granted
 pub record Paper : Type 0 where

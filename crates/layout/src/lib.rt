@@ -5,6 +5,13 @@ ghost use lib.ListN.{length, getD};
 ghost use Rattle.layout.specs.Fields.{fileHeader, batchHeader, entry, addendum, batchControl, fileControl, filler, past, other, rowsOf, noRow, firstField};
 ghost use Rattle.layout.specs.Fits.{rowFits};
 ghost use Rattle.layout.specs.Paper.{numberOf};
+ghost use Rattle.layout.specs.Ways.{recordBytes};
+
+// How the records of a file stand: back to back, or each with CR LF behind it.
+pub enum Way {
+    Plain,
+    Lined,
+}
 
 // The number of a record, from 1, through the whole file.
 pub struct RecordNo(pub u64);
@@ -39,6 +46,7 @@ pub enum Fault {
     Room,
     Shape,
     NoEntry,
+    LineEnd,
 }
 
 pub struct Refusal {
@@ -662,5 +670,16 @@ pub fn number_of(fault: Fault) -> u64
         Fault::Room => 23,
         Fault::Shape => 24,
         Fault::NoEntry => 25,
+        Fault::LineEnd => 26,
+    }
+}
+
+// The bytes of a record together with what follows it.
+pub fn record_bytes(way: Way) -> usize
+    ensures { λ r. ⌜ r ≡ recordBytes way ⌝ }
+{
+    match way {
+        Way::Plain => 94,
+        Way::Lined => 96,
     }
 }

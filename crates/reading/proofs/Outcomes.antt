@@ -14,7 +14,7 @@ use Rattle.layout.specs.declared.Fault.{Fault}
 use Rattle.layout.specs.declared.Made.{Made}
 use Rattle.layout.specs.declared.Refusal.{Refusal}
 use Rattle.records.specs.Run.{checkedOf}
-use Rattle.view.specs.View.{entriesOf, viewOf}
+use Rattle.view.specs.View.{entriesOf, recordsOf, viewOf}
 use Rattle.view.specs.Table.{addendaOf, tableOf}
 use Rattle.view.specs.Outcome.{refusal, readOf}
 use Rattle.view.proofs.Reading.{file-length}
@@ -24,77 +24,92 @@ use Rattle.view.proofs.Own.{own-entries, own-records}
 use Rattle.reading.specs.Passes.{wholeBytes}
 use Rattle.reading.specs.Puts.{Puts, Room}
 use Rattle.reading.proofs.Sections.{file-table, table-length}
+use Rattle.layout.specs.declared.Way.{Way}
+use Rattle.layout.specs.Ways.{recordBytes}
 
 -- the first record, as the code cuts it out
-pub first-long : (f : List ℕ) → 94 ≤ length f → length (take 94 f) ≡ 94
-first-long f h = simp length-take (omega arith)
+pub first-long : (way : Way) (f : List ℕ) → recordBytes way ≤ length f → length (take 94 f) ≡ 94
+first-long way f h = simp length-take (omega arith)
+
+-- a file of n records
+file-long : (way : Way) (size n : ℕ) → size ≡ recordBytes way * n → 1 ≤ n → recordBytes way ≤ size
+file-long Way.Plain size n e h = omega arith
+file-long Way.Lined size n e h = omega arith
+
+file-whole : (way : Way) (size n : ℕ) → size ≡ recordBytes way * n → size % recordBytes way ≡ 0
+file-whole Way.Plain size n e = omega arith
+file-whole Way.Lined size n e = omega arith
+
+file-short : (way : Way) (size n : ℕ) → size ≡ recordBytes way * n → n ≤ 1000000 → size ≤ 96000000
+file-short Way.Plain size n e h = omega arith
+file-short Way.Lined size n e h = omega arith
 
 abbrev sizeOf : Checked → ℕ
 sizeOf c = 109 + 95 * c .batches + 93 * c .entries + 80 * c .addenda
 
 -- what an acceptance tells a reading
-pub record Accepted (f : List ℕ) (c : Checked) : Type 0 where
-  pub long : 94 ≤ length f
-  pub whole : length f % 94 ≡ 0
-  pub short : length f ≤ 94000000
+pub record Accepted (way : Way) (f : List ℕ) (c : Checked) : Type 0 where
+  pub long : recordBytes way ≤ length f
+  pub whole : length f % recordBytes way ≡ 0
+  pub short : length f ≤ 96000000
   pub batches : c .batches < 1000000
   pub entries : c .entries < 1000000
   pub addenda : c .addenda < 1000000
-  pub size : length (tableOf 94 f) ≡ sizeOf c
-  pub bytes : wholeBytes f (c .batches) (c .entries) (c .addenda) ≡ tableOf 94 f
+  pub size : length (tableOf way f) ≡ sizeOf c
+  pub bytes : wholeBytes way f (c .batches) (c .entries) (c .addenda) ≡ tableOf way f
 
-pub accepted : (f : List ℕ) (c : Checked) → c ≡ checkedOf 94 f → c .answer ≡ Answer.Granted → Accepted f c
-accepted f c e a =
-    let granted : checkedOf 94 f .answer ≡ Answer.Granted = ap (λ x. x .answer) (sym e) ∙ a in
-    let v = viewOf 94 f in
-    let p = accepted-view f granted in
-    let told = own-entries f granted in
-    let size = ap length (p .form) ∙ file-length v (p .sized) in
+pub accepted : (way : Way) (f : List ℕ) (c : Checked) → c ≡ checkedOf way f → c .answer ≡ Answer.Granted → Accepted way f c
+accepted way f c e a =
+    let granted : checkedOf way f .answer ≡ Answer.Granted = ap (λ x. x .answer) (sym e) ∙ a in
+    let v = viewOf way f in
+    let p = accepted-view way f granted in
+    let told = own-entries way f granted in
+    let size = ap length (p .form) ∙ file-length way v (p .sized) in
     let many = records-length v in
     let batches : c .batches ≡ length (v .batches) = ap (λ x. x .batches) e ∙ told .batches in
     let entries : c .entries ≡ length (entriesOf v) = ap (λ x. x .entries) e ∙ told .entries in
     let addenda : c .addenda ≡ length (addendaOf v) = ap (λ x. x .addenda) e ∙ told .addenda in
     record {
-      long = omega arith;
-      whole = omega arith;
-      short = omega (arith, p .keeps .fits);
+      long = file-long way (length f) (length (recordsOf v)) size (omega arith);
+      whole = file-whole way (length f) (length (recordsOf v)) size;
+      short = file-short way (length f) (length (recordsOf v)) size (p .keeps .fits);
       batches = omega (arith, p .sized .batches);
       entries = omega (arith, p .sized .entries);
       addenda = omega (arith, p .sized .addenda);
       size = rw (batches, entries, addenda) (table-length v (p .sized));
-      bytes = rw (batches, entries, addenda) (file-table f v (p .sized) (own-records f granted));
+      bytes = rw (batches, entries, addenda) (file-table way f v (p .sized) (own-records way f granted));
     }
 
 abbrev refusedMade : Refusal → Made
 refusedMade r = record { answer = Answer.Refused r; length = 0 }
 
 -- the file's refusal
-pub read-refused : (f t : List ℕ) (c : Checked) (r : Refusal) → c ≡ checkedOf 94 f → c .answer ≡ Answer.Refused r
-    → (refusedMade r ≡ readOf 94 f t .gives) × (t ≡ readOf 94 f t .leaves)
-read-refused f t c r e a =
-    let refused : checkedOf 94 f .answer ≡ Answer.Refused r = ap (λ x. x .answer) (sym e) ∙ a in
+pub read-refused : (way : Way) (f t : List ℕ) (c : Checked) (r : Refusal) → c ≡ checkedOf way f → c .answer ≡ Answer.Refused r
+    → (refusedMade r ≡ readOf way f t .gives) × (t ≡ readOf way f t .leaves)
+read-refused way f t c r e a =
+    let refused : checkedOf way f .answer ≡ Answer.Refused r = ap (λ x. x .answer) (sym e) ∙ a in
     (rw refused, rw refused)
 
-module _ (f t : List ℕ) (c : Checked) (e : c ≡ checkedOf 94 f) (a : c .answer ≡ Answer.Granted) where
-  granted : checkedOf 94 f .answer ≡ Answer.Granted
+module _ (way : Way) (f t : List ℕ) (c : Checked) (e : c ≡ checkedOf way f) (a : c .answer ≡ Answer.Granted) where
+  granted : checkedOf way f .answer ≡ Answer.Granted
   granted = ap (λ x. x .answer) (sym e) ∙ a
 
   -- no room
   pub read-short : length t < sizeOf c
-      → (record { answer = refusal Fault.Room 0 0; length = 0 } ≡ readOf 94 f t .gives) × (t ≡ readOf 94 f t .leaves)
+      → (record { answer = refusal Fault.Room 0 0; length = 0 } ≡ readOf way f t .gives) × (t ≡ readOf way f t .leaves)
   read-short h =
-      let short = lt-leb (length (tableOf 94 f)) (length t) (omega (arith, accepted f c e a .size)) in
+      let short = lt-leb (length (tableOf way f)) (length t) (omega (arith, accepted way f c e a .size)) in
       (rw (granted, short), rw (granted, short))
 
-  pub read-room : sizeOf c ≤ length t → Room (wholeBytes f (c .batches) (c .entries) (c .addenda)) t 0
-  read-room h = record { fits = rw (accepted f c e a .bytes) (omega (arith, accepted f c e a .size)) }
+  pub read-room : sizeOf c ≤ length t → Room (wholeBytes way f (c .batches) (c .entries) (c .addenda)) t 0
+  read-room h = record { fits = rw (accepted way f c e a .bytes) (omega (arith, accepted way f c e a .size)) }
 
   -- the table, and the bytes past it
-  pub read-made : sizeOf c ≤ length t → {after : List ℕ} {next : ℕ} → Puts (wholeBytes f (c .batches) (c .entries) (c .addenda)) t after 0 next
-      → (record { answer = Answer.Granted; length = sizeOf c } ≡ readOf 94 f t .gives) × (after ≡ readOf 94 f t .leaves)
+  pub read-made : sizeOf c ≤ length t → {after : List ℕ} {next : ℕ} → Puts (wholeBytes way f (c .batches) (c .entries) (c .addenda)) t after 0 next
+      → (record { answer = Answer.Granted; length = sizeOf c } ≡ readOf way f t .gives) × (after ≡ readOf way f t .leaves)
   read-made h {after} p =
-      let size = accepted f c e a .size in
-      let room = le-leb (length (tableOf 94 f)) (length t) (omega arith) in
-      let stands : after ≡ tableOf 94 f ++ drop (length (tableOf 94 f)) t =
-      p .stands ∙ ap (sets t 0) (accepted f c e a .bytes) ∙ sets-eq (tableOf 94 f) t 0 (omega arith) ∙ rw (zero-add (length (tableOf 94 f))) in
+      let size = accepted way f c e a .size in
+      let room = le-leb (length (tableOf way f)) (length t) (omega arith) in
+      let stands : after ≡ tableOf way f ++ drop (length (tableOf way f)) t =
+      p .stands ∙ ap (sets t 0) (accepted way f c e a .bytes) ∙ sets-eq (tableOf way f) t 0 (omega arith) ∙ rw (zero-add (length (tableOf way f))) in
       (rw (granted, room, size), rw (granted, room) stands)

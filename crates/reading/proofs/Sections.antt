@@ -1,25 +1,29 @@
 -- The passes over the records of a view write the sections of its pay table.
 -- Assumes the view's sizes.
 use Prim.Native.Nat.{ℕ, zero, suc, _+_, _*_, _/_}
-use native.Mathlib.Nat.{zero-add}
+use native.Mathlib.Nat.{zero-add, mul-zero}
 use native.Mathlib.Omega.{arith}
 use mathlib.Core.Path.{_≡_, refl, sym, ap, _∙_}
 use mathlib.Core.Bool.{true, false}
 use mathlib.Core.List.{List, [], _∷_, _++_, map, foldr, append-assoc, append-nil}
 use lib.Dec.{eqb}
-use lib.ListN.{length, getD, take, replicate, length-append, length-map, take-append-drop}
+use lib.ListN.{length, getD, take, drop, replicate, length-append, length-map, take-append-drop, List·getD-map}
+use lib.Seq.{take-take}
 use Rattle.text.specs.Decimal.{render}
 use Rattle.text.specs.Rows.{joined, section}
 use Rattle.text.specs.Widths.{AllLong}
 use Rattle.text.proofs.DecimalLaws.{length-render}
 use Rattle.text.proofs.RowLaws.{joined-append, long-append, length-rows, getD-rows, length-section}
+use Rattle.layout.specs.declared.Way.{Way}
+use Rattle.layout.specs.Ways.{recordBytes}
+use Rattle.records.specs.Run.{rawRecords, columnsIn}
 use Rattle.view.specs.View.{Entry, Batch, View, addendumRecord, entryRecord, entryRecords, batchRecord, batchRecords, batchControlRecord, fileRecord, fileControlRecord, fillersAfter, fillerRecord, bodyOf, recordsOf, entriesOf}
 use Rattle.view.specs.Table.{countWide, fileWide, batchWide, entryWide, addendumWide, batchRow, addendaOf, tableBytes}
 use Rattle.view.specs.Sized.{All, SizedEntry, SizedBatch, Sized}
 use Rattle.view.proofs.Lists.{fold-append}
 use Rattle.view.proofs.Formed.{file-fields, batch-fields, entry-fields, addendum-fields, batch-control-fields, file-control-fields}
 use Rattle.view.proofs.Tables.{entriesIn, textsIn, entries-sized, rows-of-entries}
-use Rattle.reading.specs.Passes.{allRecords, between, rowOf, rowBytes, batchBytes, headBytes, tailBytes, wholeBytes}
+use Rattle.reading.specs.Passes.{between, rowOf, rowBytes, batchBytes, headBytes, tailBytes, wholeBytes}
 
 abbrev entriesRecords : List Entry → List (List ℕ)
 entriesRecords es = foldr (λ e rs. entryRecords e ++ rs) [] es
@@ -222,18 +226,22 @@ passes-table v s =
     pieces (render 6 1) front back (render 6 (length (addendaOf v))) row batches (batches-pass v s) entries (entries-pass v s) (addenda-pass v s)
 
 -- the first of a file's records
-first-record : (f r : List ℕ) (rs : List (List ℕ)) → allRecords f ≡ r ∷ rs → take 94 f ≡ r
-first-record f r rs e =
-    let n = length f / 94 in
-    let many : n ≡ length (r ∷ rs) = sym (length-rows 94 n f) ∙ ap length e in
-    sym (getD-rows 94 n f 0 (omega arith)) ∙ ap (λ l. getD l 0 []) e
+first-record : (way : Way) (f r : List ℕ) (rs : List (List ℕ)) → columnsIn way f ≡ r ∷ rs → take 94 f ≡ r
+first-record way f r rs e =
+    let w = recordBytes way in
+    let n = length f / w in
+    let raw = rawRecords way f in
+    let many : n ≡ length (r ∷ rs) = sym (length-rows w n f) ∙ sym (length-map raw (take 94)) ∙ ap length e in
+    let head : getD (map (take 94) raw) 0 (take 94 []) ≡ take 94 (getD raw 0 []) = List·getD-map (take 94) raw 0 [] in
+    let cut : take 94 (getD raw 0 []) ≡ take 94 f = ap (take 94) (getD-rows w n f 0 (omega arith) ∙ ap (λ k. take w (drop k f)) (mul-zero w)) ∙ take-take 94 w f (omega arith) in
+    sym cut ∙ sym head ∙ ap (λ l. getD l 0 []) e
 
 -- and for a file of these records
-pub file-table : (f : List ℕ) (v : View) → Sized v → allRecords f ≡ recordsOf v
-    → wholeBytes f (length (v .batches)) (length (entriesOf v)) (length (addendaOf v)) ≡ tableBytes v
-file-table f v s e =
+pub file-table : (way : Way) (f : List ℕ) (v : View) → Sized v → columnsIn way f ≡ recordsOf v
+    → wholeBytes way f (length (v .batches)) (length (entriesOf v)) (length (addendaOf v)) ≡ tableBytes v
+file-table way f v s e =
     let rest = batchesRecords (v .batches) ++ endOf v in
-    rw (first-record f (fileRecord v) rest e, e) (passes-table v s)
+    rw (first-record way f (fileRecord v) rest e, e) (passes-table v s)
 
 -- the length that "109 + 95 × batches + 93 × entries + 80 × addenda" tells
 batch-rows-long : (bs : List Batch) → All SizedBatch bs → AllLong batchWide (map batchRow bs)

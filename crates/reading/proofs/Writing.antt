@@ -1,20 +1,22 @@
 -- Writing one thing behind the other, and the walk along a file's records that does so.
 -- Assumes nothing.
-use Prim.Native.Nat.{ℕ, suc, _+_, _-_, _/_, _%_, _<_, _≤_}
+use Prim.Native.Nat.{ℕ, _+_, _≤_}
 use native.Mathlib.Nat.{add-zero, add-assoc}
 use native.Mathlib.Omega.{arith}
 use mathlib.Core.Path.{_≡_, refl, sym, ap, _∙_}
 use mathlib.Core.Bool.{Bool, true, false}
-use mathlib.Core.List.{List, [], _∷_, _++_}
+use mathlib.Core.List.{List, [], _∷_, _++_, map}
 use borrow.Author.Tests.{eq-eqb, ne-eqb}
 use lib.Dec.{eqb}
-use lib.ListN.{length, getD, drop, length-append}
-use lib.Seq.{sets, length-sets, drop-drop}
+use lib.ListN.{length, getD, take, length-append}
+use lib.Seq.{sets, length-sets}
 use Rattle.text.specs.Decimal.{pick, render}
-use Rattle.text.specs.Rows.{rows}
 use Rattle.text.proofs.SetLaws.{sets-append}
-use Rattle.accept.proofs.Laws.{recordAt}
-use Rattle.reading.specs.Passes.{allRecords, between, rowOf, rowBytes, countAfter, batchPiece, batchBytes}
+use Rattle.layout.specs.declared.Way.{Way}
+use Rattle.layout.specs.Ways.{recordBytes}
+use Rattle.records.specs.Run.{columnsIn}
+use Rattle.records.proofs.Ways.{rawFrom, columnsAt, raw-next, raw-end, raw-whole, columns-of}
+use Rattle.reading.specs.Passes.{between, rowOf, rowBytes, countAfter, batchPiece, batchBytes}
 use Rattle.reading.specs.Puts.{Puts, Room}
 
 -- ---- one behind the other
@@ -73,30 +75,19 @@ module _ {rest all was here : List ℕ} {start to : ℕ} (left : Left rest all w
         behind = rw (p .behind) (add-assoc to (length xs) (length more)) ∙ ap (λ n. to + n) (sym (length-append xs more) ∙ ap length (sym e)) ∙ left .behind;
       }
 
--- ---- the records from byte `at` on
+-- ---- the columns of the records from byte `at` on
 
-abbrev pub recordsFrom : List ℕ → ℕ → List (List ℕ)
-recordsFrom f at = rows 94 ((length f - at) / 94) (drop at f)
+abbrev pub recordsFrom : Way → List ℕ → ℕ → List (List ℕ)
+recordsFrom way f at = map (take 94) (rawFrom way f at)
 
-pub records-next : (f : List ℕ) (at : ℕ) → at + 94 ≤ length f → recordsFrom f at ≡ recordAt f at ∷ recordsFrom f (at + 94)
-unfolding rows
-records-next f at h =
-    let more : (length f - at) / 94 ≡ suc ((length f - (at + 94)) / 94) = omega arith in
-    let wide : at + 94 - at ≡ 94 = omega arith in
-    rw (more, wide, drop-drop 94 at f) refl
+pub records-next : (way : Way) (f : List ℕ) (at : ℕ) → at + recordBytes way ≤ length f → recordsFrom way f at ≡ columnsAt f at ∷ recordsFrom way f (at + recordBytes way)
+records-next way f at h = ap (map (take 94)) (raw-next way f at h) ∙ ap (λ r. r ∷ recordsFrom way f (at + recordBytes way)) (columns-of way f at)
 
-pub records-end : (f : List ℕ) (at : ℕ) → length f ≤ at → recordsFrom f at ≡ []
-unfolding rows
-records-end f at h =
-    let none : (length f - at) / 94 ≡ 0 = omega arith in
-    rw none refl
+pub records-end : (way : Way) (f : List ℕ) (at : ℕ) → length f ≤ at → recordsFrom way f at ≡ []
+records-end way f at h = ap (map (take 94)) (raw-end way f at h)
 
-pub records-whole : (f : List ℕ) → recordsFrom f 0 ≡ allRecords f
-records-whole f = let whole : length f - 0 ≡ length f = omega arith in rw whole refl
-
--- before the end a whole record stands
-pub room-for : (n at : ℕ) → n % 94 ≡ 0 → at % 94 ≡ 0 → at < n → at + 94 ≤ n
-room-for n at a b c = omega arith
+pub records-whole : (way : Way) (f : List ℕ) → recordsFrom way f 0 ≡ columnsIn way f
+records-whole way f = ap (map (take 94)) (raw-whole way f)
 
 -- ---- one record
 
@@ -130,52 +121,52 @@ module _ (r : List ℕ) (n : ℕ) where
 -- ---- the passes
 
 -- entries or addenda
-module _ (kind from end : ℕ) (f was : List ℕ) (start : ℕ) where
+module _ (way : Way) (kind from end : ℕ) (f was : List ℕ) (start : ℕ) where
   abbrev pub RowsLeft : List ℕ → ℕ → ℕ → Type 0
-  RowsLeft here to at = Left (rowBytes kind from end (recordsFrom f at)) (rowBytes kind from end (allRecords f)) was here start to
+  RowsLeft here to at = Left (rowBytes kind from end (recordsFrom way f at)) (rowBytes kind from end (columnsIn way f)) was here start to
 
   pub rows-start : RowsLeft was start 0
-  rows-start = rw (records-whole f) (left-start (rowBytes kind from end (allRecords f)) was start)
+  rows-start = rw (records-whole way f) (left-start (rowBytes kind from end (columnsIn way f)) was start)
 
-  pub rows-end : {here : List ℕ} {to at : ℕ} → RowsLeft here to at → length f ≤ at → Puts (rowBytes kind from end (allRecords f)) was here start to
+  pub rows-end : {here : List ℕ} {to at : ℕ} → RowsLeft here to at → length f ≤ at → Puts (rowBytes kind from end (columnsIn way f)) was here start to
   unfolding rowBytes
-  rows-end {here} {to} {at} left h = left-end left (rw (records-end f at h))
+  rows-end {here} {to} {at} left h = left-end left (rw (records-end way f at h))
 
-  module _ (at : ℕ) (room : at + 94 ≤ length f) where
-    row-step : rowBytes kind from end (recordsFrom f at) ≡ rowOf kind from end (recordAt f at) ++ rowBytes kind from end (recordsFrom f (at + 94))
+  module _ (at : ℕ) (room : at + recordBytes way ≤ length f) where
+    row-step : rowBytes kind from end (recordsFrom way f at) ≡ rowOf kind from end (columnsAt f at) ++ rowBytes kind from end (recordsFrom way f (at + recordBytes way))
     unfolding rowBytes
-    row-step = rw (records-next f at room)
+    row-step = rw (records-next way f at room)
 
     module _ {here : List ℕ} {to : ℕ} (left : RowsLeft here to at) where
-      pub rows-room : Room (rowBytes kind from end (allRecords f)) was start → Room (rowOf kind from end (recordAt f at)) here to
-      rows-room h = left-room left (rowOf kind from end (recordAt f at)) (rowBytes kind from end (recordsFrom f (at + 94))) row-step h
+      pub rows-room : Room (rowBytes kind from end (columnsIn way f)) was start → Room (rowOf kind from end (columnsAt f at)) here to
+      rows-room h = left-room left (rowOf kind from end (columnsAt f at)) (rowBytes kind from end (recordsFrom way f (at + recordBytes way))) row-step h
 
-      pub rows-next : {after : List ℕ} {next : ℕ} → Puts (rowOf kind from end (recordAt f at)) here after to next → RowsLeft after next (at + 94)
+      pub rows-next : {after : List ℕ} {next : ℕ} → Puts (rowOf kind from end (columnsAt f at)) here after to next → RowsLeft after next (at + recordBytes way)
       rows-next {after} {next} p =
-          left-next left (rowOf kind from end (recordAt f at)) (rowBytes kind from end (recordsFrom f (at + 94))) after next row-step p
+          left-next left (rowOf kind from end (columnsAt f at)) (rowBytes kind from end (recordsFrom way f (at + recordBytes way))) after next row-step p
 
 -- batches, with the entries counted so far
-module _ (f was : List ℕ) (start : ℕ) where
+module _ (way : Way) (f was : List ℕ) (start : ℕ) where
   abbrev pub BatchesLeft : ℕ → List ℕ → ℕ → ℕ → Type 0
-  BatchesLeft count here to at = Left (batchBytes count (recordsFrom f at)) (batchBytes 0 (allRecords f)) was here start to
+  BatchesLeft count here to at = Left (batchBytes count (recordsFrom way f at)) (batchBytes 0 (columnsIn way f)) was here start to
 
   pub batches-start : BatchesLeft 0 was start 0
-  batches-start = rw (records-whole f) (left-start (batchBytes 0 (allRecords f)) was start)
+  batches-start = rw (records-whole way f) (left-start (batchBytes 0 (columnsIn way f)) was start)
 
-  pub batches-end : (count : ℕ) {here : List ℕ} {to at : ℕ} → BatchesLeft count here to at → length f ≤ at → Puts (batchBytes 0 (allRecords f)) was here start to
+  pub batches-end : (count : ℕ) {here : List ℕ} {to at : ℕ} → BatchesLeft count here to at → length f ≤ at → Puts (batchBytes 0 (columnsIn way f)) was here start to
   unfolding batchBytes
-  batches-end count {here} {to} {at} left h = left-end left (rw (records-end f at h))
+  batches-end count {here} {to} {at} left h = left-end left (rw (records-end way f at h))
 
-  module _ (at : ℕ) (room : at + 94 ≤ length f) (count : ℕ) where
-    batch-step : batchBytes count (recordsFrom f at) ≡ batchPiece (recordAt f at) count ++ batchBytes (countAfter (recordAt f at) count) (recordsFrom f (at + 94))
+  module _ (at : ℕ) (room : at + recordBytes way ≤ length f) (count : ℕ) where
+    batch-step : batchBytes count (recordsFrom way f at) ≡ batchPiece (columnsAt f at) count ++ batchBytes (countAfter (columnsAt f at) count) (recordsFrom way f (at + recordBytes way))
     unfolding batchBytes
-    batch-step = rw (records-next f at room)
+    batch-step = rw (records-next way f at room)
 
     module _ {here : List ℕ} {to : ℕ} (left : BatchesLeft count here to at) where
-      pub batches-room : Room (batchBytes 0 (allRecords f)) was start → Room (batchPiece (recordAt f at) count) here to
-      batches-room h = left-room left (batchPiece (recordAt f at) count) (batchBytes (countAfter (recordAt f at) count) (recordsFrom f (at + 94))) batch-step h
+      pub batches-room : Room (batchBytes 0 (columnsIn way f)) was start → Room (batchPiece (columnsAt f at) count) here to
+      batches-room h = left-room left (batchPiece (columnsAt f at) count) (batchBytes (countAfter (columnsAt f at) count) (recordsFrom way f (at + recordBytes way))) batch-step h
 
-      pub batches-next : {after : List ℕ} {next : ℕ} → Puts (batchPiece (recordAt f at) count) here after to next
-          → BatchesLeft (countAfter (recordAt f at) count) after next (at + 94)
+      pub batches-next : {after : List ℕ} {next : ℕ} → Puts (batchPiece (columnsAt f at) count) here after to next
+          → BatchesLeft (countAfter (columnsAt f at) count) after next (at + recordBytes way)
       batches-next {after} {next} p =
-          left-next left (batchPiece (recordAt f at) count) (batchBytes (countAfter (recordAt f at) count) (recordsFrom f (at + 94))) after next batch-step p
+          left-next left (batchPiece (columnsAt f at) count) (batchBytes (countAfter (columnsAt f at) count) (recordsFrom way f (at + recordBytes way))) after next batch-step p

@@ -1,15 +1,12 @@
 -- What each pass over a file's records writes, record by record. A record is told by its first byte: '1', '5', '6', '7' and '8'
 -- are 49, 53, 54, 55 and 56.
-use Prim.Native.Nat.{ℕ, _+_, _-_, _/_}
+use Prim.Native.Nat.{ℕ, _+_, _-_}
 use mathlib.Core.List.{List, [], _∷_, _++_}
 use lib.Dec.{eqb}
-use lib.ListN.{length, getD, take, drop}
+use lib.ListN.{getD, take, drop}
 use Rattle.text.specs.Decimal.{pick, render}
-use Rattle.text.specs.Rows.{rows}
-
--- the whole records of a file
-abbrev pub allRecords : List ℕ → List (List ℕ)
-allRecords f = rows 94 (length f / 94) f
+use Rattle.layout.specs.declared.Way.{Way}
+use Rattle.records.specs.Run.{columnsIn}
 
 -- the bytes from `from` on, up to `end` and without it, counted from 0
 abbrev pub between : ℕ → ℕ → List ℕ → List ℕ
@@ -46,6 +43,6 @@ tailBytes entries addenda rs =
     render 6 entries ++ (rowBytes 54 1 94 rs ++ (render 6 addenda ++ rowBytes 55 3 83 rs))
 
 -- all that is written, of a file and its three counts
-abbrev pub wholeBytes : List ℕ → ℕ → ℕ → ℕ → List ℕ
-wholeBytes f batches entries addenda =
-    headBytes (take 94 f) batches ++ (batchBytes 0 (allRecords f) ++ tailBytes entries addenda (allRecords f))
+abbrev pub wholeBytes : Way → List ℕ → ℕ → ℕ → ℕ → List ℕ
+wholeBytes way f batches entries addenda =
+    headBytes (take 94 f) batches ++ (batchBytes 0 (columnsIn way f) ++ tailBytes entries addenda (columnsIn way f))

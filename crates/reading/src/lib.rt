@@ -4,12 +4,15 @@ use layout::Fault;
 use layout::Made;
 use layout::RecordNo;
 use layout::Refusal;
+use layout::Way;
 ghost use Prim.Native.Nat.{_%_, _<_, _≤_};
 ghost use mathlib.Core.Path.{_≡_};
 ghost use lib.ListN.{length};
 ghost use Rattle.text.specs.Decimal.{render};
+ghost use Rattle.layout.specs.Ways.{recordBytes};
+ghost use Rattle.records.specs.Run.{columnsIn};
 ghost use Rattle.view.specs.Outcome.{readOf};
-ghost use Rattle.reading.specs.Passes.{allRecords, between, rowOf, rowBytes, countAfter, batchPiece, batchBytes, headBytes, tailBytes, wholeBytes};
+ghost use Rattle.reading.specs.Passes.{between, rowOf, rowBytes, countAfter, batchPiece, batchBytes, headBytes, tailBytes, wholeBytes};
 ghost use Rattle.reading.specs.Puts.{Puts, Room};
 
 // Writes bytes `from` to `end` of a record at `to`, and gives the place behind them.
@@ -44,23 +47,30 @@ fn put_row(rec: &[u8], kind: u8, from: usize, end: usize, table: &mut [u8], to: 
 }
 
 // The pass for the entries or the addenda: one part of each record of their kind.
-fn put_rows(file: &[u8], kind: u8, from: usize, end: usize, table: &mut [u8], start: usize) -> usize
-    requires { ⌜ (length (now file) % 94 ≡ 0) × (from ≤ end) × (end ≤ 94) × Room (rowBytes kind from end (allRecords (now file))) (now table) start ⌝ }
-    ensures { λ r. ⌜ Puts (rowBytes kind from end (allRecords (now (file .entry)))) (now (table .entry)) (now (table .exit)) start r ⌝ }
+fn put_rows(
+    way: Way,
+    file: &[u8],
+    kind: u8,
+    from: usize,
+    end: usize,
+    table: &mut [u8],
+    start: usize,
+) -> usize
+    requires { ⌜ (length (now file) % recordBytes way ≡ 0) × (from ≤ end) × (end ≤ 94) × Room (rowBytes kind from end (columnsIn way (now file))) (now table) start ⌝ }
+    ensures { λ r. ⌜ Puts (rowBytes kind from end (columnsIn way (now (file .entry)))) (now (table .entry)) (now (table .exit)) start r ⌝ }
 {
     let mut to = start;
     let mut at = 0;
     while at < file.len() {
-        let next = at + 94;
-        to = put_row(&file[at..next], kind, from, end, table, to);
-        at = next;
+        to = put_row(&file[at..at + 94], kind, from, end, table, to);
+        at += layout::record_bytes(way);
     }
     to
 }
 
 // The entries since the last record 5, behind this record.
 fn count_after(rec: &[u8], count: u64) -> u64
-    requires { ⌜ (length (now rec) ≡ 94) × (count < 94000000) ⌝ }
+    requires { ⌜ (length (now rec) ≡ 94) × (count < 96000000) ⌝ }
     ensures { λ r. ⌜ r ≡ countAfter (now (rec .entry)) count ⌝ }
 {
     if rec[0] == b'5' {
@@ -88,19 +98,18 @@ fn put_batch_piece(rec: &[u8], count: u64, table: &mut [u8], to: usize) -> usize
 }
 
 // The pass for the batches.
-fn put_batches(file: &[u8], table: &mut [u8], start: usize) -> usize
-    requires { ⌜ (length (now file) % 94 ≡ 0) × (length (now file) ≤ 94000000) × Room (batchBytes 0 (allRecords (now file))) (now table) start ⌝ }
-    ensures { λ r. ⌜ Puts (batchBytes 0 (allRecords (now (file .entry)))) (now (table .entry)) (now (table .exit)) start r ⌝ }
+fn put_batches(way: Way, file: &[u8], table: &mut [u8], start: usize) -> usize
+    requires { ⌜ (length (now file) % recordBytes way ≡ 0) × (length (now file) ≤ 96000000) × Room (batchBytes 0 (columnsIn way (now file))) (now table) start ⌝ }
+    ensures { λ r. ⌜ Puts (batchBytes 0 (columnsIn way (now (file .entry)))) (now (table .entry)) (now (table .exit)) start r ⌝ }
 {
     let mut to = start;
     let mut count = 0;
     let mut at = 0;
     while at < file.len() {
-        let next = at + 94;
-        let rec = &file[at..next];
+        let rec = &file[at..at + 94];
         to = put_batch_piece(rec, count, table, to);
         count = count_after(rec, count);
-        at = next;
+        at += layout::record_bytes(way);
     }
     to
 }
@@ -117,31 +126,38 @@ fn put_head(rec: &[u8], batches: u64, table: &mut [u8]) -> usize
 }
 
 // The entries and the addenda, each behind their count.
-fn put_tail(file: &[u8], entries: u64, addenda: u64, table: &mut [u8], to: usize) -> usize
-    requires { ⌜ (length (now file) % 94 ≡ 0) × Room (tailBytes entries addenda (allRecords (now file))) (now table) to ⌝ }
-    ensures { λ r. ⌜ Puts (tailBytes entries addenda (allRecords (now (file .entry)))) (now (table .entry)) (now (table .exit)) to r ⌝ }
+fn put_tail(way: Way, file: &[u8], entries: u64, addenda: u64, table: &mut [u8], to: usize) -> usize
+    requires { ⌜ (length (now file) % recordBytes way ≡ 0) × Room (tailBytes entries addenda (columnsIn way (now file))) (now table) to ⌝ }
+    ensures { λ r. ⌜ Puts (tailBytes entries addenda (columnsIn way (now (file .entry)))) (now (table .entry)) (now (table .exit)) to r ⌝ }
 {
     let rows = put_count(entries, table, to);
-    let count = put_rows(file, b'6', 1, 94, table, rows);
+    let count = put_rows(way, file, b'6', 1, 94, table, rows);
     let texts = put_count(addenda, table, count);
-    put_rows(file, b'7', 3, 83, table, texts)
+    put_rows(way, file, b'7', 3, 83, table, texts)
 }
 
 // The whole table, front to back.
-fn put_table(file: &[u8], batches: u64, entries: u64, addenda: u64, table: &mut [u8]) -> usize
-    requires { ⌜ (94 ≤ length (now file)) × (length (now file) % 94 ≡ 0) × (length (now file) ≤ 94000000) × Room (wholeBytes (now file) batches entries addenda) (now table) 0 ⌝ }
-    ensures { λ r. ⌜ Puts (wholeBytes (now (file .entry)) batches entries addenda) (now (table .entry)) (now (table .exit)) 0 r ⌝ }
+fn put_table(
+    way: Way,
+    file: &[u8],
+    batches: u64,
+    entries: u64,
+    addenda: u64,
+    table: &mut [u8],
+) -> usize
+    requires { ⌜ (recordBytes way ≤ length (now file)) × (length (now file) % recordBytes way ≡ 0) × (length (now file) ≤ 96000000) × Room (wholeBytes way (now file) batches entries addenda) (now table) 0 ⌝ }
+    ensures { λ r. ⌜ Puts (wholeBytes way (now (file .entry)) batches entries addenda) (now (table .entry)) (now (table .exit)) 0 r ⌝ }
 {
     let rows = put_head(&file[0..94], batches, table);
-    let tail = put_batches(file, table, rows);
-    put_tail(file, entries, addenda, table, tail)
+    let tail = put_batches(way, file, table, rows);
+    put_tail(way, file, entries, addenda, table, tail)
 }
 
 // The pay table of a file that keeps the rules; the bytes past it stay.
-pub fn read(file: &[u8], table: &mut [u8]) -> Made
-    ensures { λ r. ⌜ (r ≡ readOf 94 (now (file .entry)) (now (table .entry)) .gives) × (now (table .exit) ≡ readOf 94 (now (file .entry)) (now (table .entry)) .leaves) ⌝ }
+pub fn read(way: Way, file: &[u8], table: &mut [u8]) -> Made
+    ensures { λ r. ⌜ (r ≡ readOf way (now (file .entry)) (now (table .entry)) .gives) × (now (table .exit) ≡ readOf way (now (file .entry)) (now (table .entry)) .leaves) ⌝ }
 {
-    let checked = accept::check(file);
+    let checked = accept::check(way, file);
     let answer = checked.answer;
     if let Answer::Refused(refusal) = answer {
         return Made {
@@ -161,6 +177,7 @@ pub fn read(file: &[u8], table: &mut [u8]) -> Made
         };
     }
     put_table(
+        way,
         file,
         checked.batches,
         checked.entries,

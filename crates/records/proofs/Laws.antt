@@ -16,14 +16,14 @@ use Rattle.layout.specs.declared.Fault.{Fault}
 use Rattle.layout.specs.declared.Line.{Line}
 use Rattle.layout.specs.declared.Row.{Row}
 use Rattle.layout.specs.Fields.{noRow, rowsOf, firstField}
-use Rattle.rules.specs.declared.Mark.{Mark}
+use Rattle.kinds.specs.declared.Mark.{Mark}
 use Rattle.rules.specs.Field.{fieldOf}
 use Rattle.records.specs.declared.Verdict.{Verdict}
 use Rattle.records.specs.Run.{fieldsFrom}
+use Rattle.kinds.specs.declared.Code.{Code}
+use Rattle.kinds.specs.Codes.{debitPart, creditPart}
 use Rattle.rules.specs.declared.Sums.{Sums}
 use Rattle.rules.specs.declared.Said.{Said}
-use Rattle.rules.specs.declared.Code.{Code}
-use Rattle.rules.specs.Codes.{debitPart, creditPart}
 use Rattle.rules.specs.Quick.{saidOf}
 use Rattle.rules.specs.Small.{Small}
 use Rattle.records.specs.Fair.{SmallRows, Fair}

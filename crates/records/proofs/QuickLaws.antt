@@ -6,9 +6,9 @@ use mathlib.Core.Bool.{Bool, true, false, _&&_, false≢true}
 use mathlib.Core.List.{List}
 use Rattle.text.proofs.DecimalLaws.{and-both}
 use Rattle.layout.specs.Fields.{entry, addendum, part}
-use Rattle.rules.specs.declared.Mark.{Mark}
+use Rattle.kinds.specs.declared.Mark.{Mark}
+use Rattle.kinds.specs.Kinds.{fixed, optionalText, mandatoryText, bank, account, flag}
 use Rattle.rules.specs.declared.Sums.{Sums}
-use Rattle.rules.specs.Kinds.{fixed, optionalText, mandatoryText, bank, account, flag}
 use Rattle.rules.specs.Field.{codeRule, checkDigitRule, amountRule, traceRule, entryTraceRule}
 use Rattle.rules.specs.Quick.{isRight, entryFront, entryBack, addendumAll}
 use Rattle.records.specs.declared.Verdict.{Verdict}

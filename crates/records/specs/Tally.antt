@@ -5,8 +5,8 @@ use lib.ListN.{getD, set, replicate}
 use Rattle.text.specs.Rows.{columns}
 use Rattle.layout.specs.declared.Line.{Line}
 use Rattle.layout.specs.Fields.{recordColumns}
+use Rattle.kinds.specs.Codes.{codeOf, codeRow, debitPart, creditPart}
 use Rattle.rules.specs.declared.Sums.{Sums}
-use Rattle.rules.specs.Codes.{codeOf, codeRow, debitPart, creditPart}
 use Rattle.rules.specs.Field.{entryCode, entryBank, entryAmount, entryTrace, batchNumber}
 use Rattle.records.specs.declared.State.{State}
 use Rattle.records.specs.declared.Place.{Place}

@@ -1,10 +1,13 @@
 // The order of record types.
 use crate::Place;
 use layout::Line;
+use layout::Way;
 ghost use mathlib.Core.Path.{_≡_};
 ghost use lib.ListN.{length, getD};
 ghost use lib.Dec.{eqb};
 ghost use Rattle.text.specs.Decimal.{pick};
+ghost use Rattle.layout.specs.Ways.{recordBytes};
+ghost use Rattle.records.specs.Run.{pieceOf};
 ghost use Rattle.records.specs.Order.{filled, lineAt, takesAddendum, nextPlace, complete};
 
 fn filled(n: u64) -> bool
@@ -85,5 +88,16 @@ pub fn complete(place: Place, n: u64) -> bool
         Place::EntryDone => false,
         Place::BatchDone => false,
         Place::FileDone => filled(n),
+    }
+}
+
+// Whether the line end of the way follows a record's columns.
+pub fn closed(way: Way, rec: &[u8]) -> bool
+    requires { ⌜ length (now rec) ≡ recordBytes way ⌝ }
+    ensures { λ r. ⌜ r ≡ pieceOf way (now (rec .entry)) .closed ⌝ }
+{
+    match way {
+        Way::Plain => true,
+        Way::Lined => (rec[94] == 13) & (rec[95] == 10),
     }
 }

@@ -5,8 +5,8 @@ use crate::Verdict;
 use crate::order;
 use crate::quick;
 use crate::tally;
+use kinds::Mark;
 use layout::Line;
-use rules::Mark;
 use rules::Sums;
 use rules::field;
 use rules::near;
@@ -16,7 +16,7 @@ ghost use lib.ListN.{length};
 ghost use Rattle.layout.specs.Fields.{rowsOf, firstField};
 ghost use Rattle.rules.specs.Small.{Small};
 ghost use Rattle.records.specs.Fair.{Fair};
-ghost use Rattle.records.specs.Run.{fieldsFrom, recordOf};
+ghost use Rattle.records.specs.Run.{fieldsFrom, bare, recordOf};
 
 // The first field that is wrong, if any, of a record that is taken for this line.
 pub fn fields(line: Line, sums: Sums, header: &[u8], rec: &[u8]) -> Verdict
@@ -36,10 +36,10 @@ pub fn fields(line: Line, sums: Sums, header: &[u8], rec: &[u8]) -> Verdict
     Verdict::Passed
 }
 
-// One record of 94 bytes in the state that the records before it left.
+// One record in the state that the records before it left: its 94 columns, with no line end behind them.
 pub fn check(st: State, rec: &[u8]) -> Stepped
     requires { ⌜ Fair st × (st .sums .records < 1000000) × (length (now rec) ≡ 94) ⌝ }
-    ensures { λ r. ⌜ (r ≡ recordOf st (now (rec .entry))) × Fair (r .state) ⌝ }
+    ensures { λ r. ⌜ (r ≡ recordOf st (bare (now (rec .entry)))) × Fair (r .state) ⌝ }
 {
     let place = st.place;
     let sums = st.sums;

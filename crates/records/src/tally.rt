@@ -1,16 +1,16 @@
 // What each record adds to the counts, the hash, the totals and the rows by code.
 use crate::State;
 use crate::order;
+use kinds::codes;
 use layout::Line;
 use rules::Said;
 use rules::Sums;
-use rules::codes;
 use rules::near;
 ghost use Prim.Native.Nat.{ℕ, _+_, _*_, _≤_, _<_};
 ghost use mathlib.Core.Path.{_≡_};
 ghost use mathlib.Core.List.{List};
 ghost use lib.ListN.{length, getD};
-ghost use Rattle.rules.specs.Codes.{codeOf, debitPart, creditPart};
+ghost use Rattle.kinds.specs.Codes.{codeOf, debitPart, creditPart};
 ghost use Rattle.rules.specs.Quick.{saidOf};
 ghost use Rattle.rules.specs.Small.{Small};
 ghost use Rattle.records.specs.Fair.{SmallRows, Fair};

@@ -1,109 +1,25 @@
--- What the loops and the straight-line sums of the field rules come to.
+-- What rules with their tests gathered, and the parts that repeat record 5, come to.
 -- Assumes nothing.
-use Prim.Native.Nat.{ℕ, zero, suc, _+_, _-_, _*_, _<_, _≤_}
-use native.Mathlib.Numerals.{add-one}
+use Prim.Native.Nat.{ℕ, _+_, _-_, _≤_}
 use native.Mathlib.Omega.{arith}
 use mathlib.Core.Path.{_≡_, refl, sym, ap, _∙_}
-use mathlib.Core.Bool.{Bool, true, false, _&&_, _||_, not}
-use mathlib.Core.List.{List, [], _∷_}
-use mathlib.Core.Logic.{_⊎_, inl, inr}
-use borrow.Author.Tests.{ne-eqb, leb-true}
-use lib.Dec.{eqb, leb}
-use lib.ListN.{length, getD, take, drop}
-use lib.Seq.{drop-cons}
-use Rattle.text.specs.Decimal.{pick, every, digits, digitOf, value}
+use mathlib.Core.Bool.{Bool, true, false, _&&_}
+use mathlib.Core.List.{List}
+use borrow.Author.Tests.{leb-true}
+use lib.Dec.{leb}
+use lib.ListN.{length, take, drop}
+use Rattle.text.specs.Decimal.{digits, value}
 use Rattle.text.specs.Same.{sameBytes}
 use Rattle.text.proofs.DecimalLaws.{and-both}
 use Rattle.layout.specs.declared.Fault.{Fault}
 use Rattle.layout.specs.declared.Kind.{Kind}
 use Rattle.layout.specs.Fits.{kindFits}
-use Rattle.rules.specs.declared.Code.{Code}
-use Rattle.rules.specs.declared.Mark.{Mark}
+use Rattle.kinds.specs.declared.Code.{Code}
+use Rattle.kinds.specs.declared.Mark.{Mark}
+use Rattle.kinds.specs.Codes.{codeOf, known, allowed}
+use Rattle.kinds.specs.Kinds.{need}
 use Rattle.rules.specs.Field.{asBatchRule, batchClass, codeRule}
-use Rattle.rules.specs.Codes.{codeOf, known, allowed}
 use Rattle.rules.specs.Quick.{isRight}
-use Rattle.rules.specs.Kinds.{need, weights, weighed, blank, unbroken}
-
--- three digits under the weights 3, 7 and 1
-abbrev pub grouped : ℕ → ℕ → ℕ → ℕ
-grouped a b c = 3 * digitOf a + 7 * digitOf b + digitOf c
-
--- eight digits are weighed as three groups, the last with a 0 behind it
-pub weighed-groups : (s : List ℕ) → length s ≡ 8
-    → grouped (getD s 0 0) (getD s 1 0) (getD s 2 0) + grouped (getD s 3 0) (getD s 4 0) (getD s 5 0) + grouped (getD s 6 0) (getD s 7 0) 48 ≡ weighed weights s
-unfolding weighed
-weighed-groups [] e = absurd (omega arith)
-weighed-groups (a ∷ []) e = absurd (omega arith)
-weighed-groups (a ∷ b ∷ []) e = absurd (omega arith)
-weighed-groups (a ∷ b ∷ c ∷ []) e = absurd (omega arith)
-weighed-groups (a ∷ b ∷ c ∷ d ∷ []) e = absurd (omega arith)
-weighed-groups (a ∷ b ∷ c ∷ d ∷ f ∷ []) e = absurd (omega arith)
-weighed-groups (a ∷ b ∷ c ∷ d ∷ f ∷ g ∷ []) e = absurd (omega arith)
-weighed-groups (a ∷ b ∷ c ∷ d ∷ f ∷ g ∷ h ∷ []) e = absurd (omega arith)
-weighed-groups (a ∷ b ∷ c ∷ d ∷ f ∷ g ∷ h ∷ i ∷ []) e = omega arith
-weighed-groups (a ∷ b ∷ c ∷ d ∷ f ∷ g ∷ h ∷ i ∷ j ∷ s) e = absurd (omega arith)
-
--- no blank stands just before another byte, in what follows a byte b
-unfoldable pub pairsFrom : ℕ → List ℕ → Bool
-pairsFrom b [] = true
-pairsFrom b (c ∷ cs) = (not (eqb b 32) || eqb c 32) && pairsFrom c cs
-
-pairs-blank : (b : ℕ) (bs : List ℕ) → eqb b 32 ≡ true → pairsFrom b bs ≡ blank bs
-unfolding pairsFrom every
-pairs-blank b [] g = refl
-pairs-blank b (c ∷ cs) g = rw g (go (eqb c 32) refl (pairs-blank c cs))
-  where
-    go : (gap : Bool) → eqb c 32 ≡ gap → (eqb c 32 ≡ true → pairsFrom c cs ≡ blank cs) → (gap && pairsFrom c cs) ≡ (gap && blank cs)
-    go true e f = f e
-    go false e f = refl
-
-either : (gap : Bool) → true ≡ pick gap true true
-either true = refl
-either false = refl
-
-behind : (b c : ℕ) (cs : List ℕ) (gap : Bool) → eqb b 32 ≡ gap → pairsFrom c cs ≡ unbroken (c ∷ cs)
-    → pairsFrom b (c ∷ cs) ≡ pick gap (blank (c ∷ cs)) (unbroken (c ∷ cs))
-unfolding pairsFrom
-behind b c cs true e f = pairs-blank b (c ∷ cs) e
-behind b c cs false e f = rw e f
-
-pub pairs-unbroken : (b : ℕ) (bs : List ℕ) → pairsFrom b bs ≡ unbroken (b ∷ bs)
-unfolding pairsFrom unbroken every
-pairs-unbroken b [] = either (eqb b 32)
-pairs-unbroken b (c ∷ cs) = behind b c cs (eqb b 32) refl (pairs-unbroken c cs)
-
--- the walk along an account's pairs: before the first, one more, and the end
-pub pairs-start : (p : List ℕ) → pairsFrom (getD p (1 - 1) 0) (drop 1 p) ≡ unbroken p
-unfolding pairsFrom unbroken
-pairs-start [] = refl
-pairs-start (b ∷ bs) = pairs-unbroken b bs
-
-regroup : (a b c d : Bool) → (a && (b && c)) ≡ d → ((a && b) && c) ≡ d
-regroup true b c d e = e
-regroup false b c d e = e
-
-pub pairs-turn : (p : List ℕ) (i : ℕ) (all : Bool) → i < length p
-    → (all && pairsFrom (getD p (i - 1) 0) (drop i p)) ≡ unbroken p
-    → ((all && (not (eqb (getD p (i - 1) 0) 32) || eqb (getD p i 0) 32)) && pairsFrom (getD p (i + 1 - 1) 0) (drop (i + 1) p)) ≡ unbroken p
-unfolding pairsFrom
-pairs-turn p i all h e =
-    let back : i + 1 - 1 ≡ i = omega arith in
-    rw (back, add-one i)
-    (regroup all (not (eqb (getD p (i - 1) 0) 32) || eqb (getD p i 0) 32) (pairsFrom (getD p i 0) (drop (suc i) p)) (unbroken p)
-    (rw (drop-cons p i 0 h) at e))
-
-pub pairs-end : (p : List ℕ) (i : ℕ) (all : Bool) → length p ≤ i
-    → (all && pairsFrom (getD p (i - 1) 0) (drop i p)) ≡ unbroken p → all ≡ unbroken p
-unfolding pairsFrom
-pairs-end p i all h e = go all (rw (lib.ListN.drop-of-length-le p h) at e)
-  where
-    go : (all : Bool) → (all && true) ≡ unbroken p → all ≡ unbroken p
-    go true e = e
-    go false e = e
-
-pub or-not-false : (b : Bool) → (b || not false) ≡ true
-or-not-false true = refl
-or-not-false false = refl
 
 -- rules with their tests gathered
 bit : (b : Bool) (fault : Fault) → b ≡ isRight (need b fault Mark.Right)
@@ -128,21 +44,6 @@ code-right h p = go (digits p) (codeOf (value p))
     go true Code.Unknown = refl
     go true (Code.Credit u) = bit (allowed (batchClass h) (Code.Credit u)) Fault.Side
     go true (Code.Debit u) = bit (allowed (batchClass h) (Code.Debit u)) Fault.Side
-
--- a code that is none of the eight
-pub unknown : (n : ℕ) → ((n ≡ 22) ⊎ (n ≡ 32) → ⊥) → ((n ≡ 23) ⊎ (n ≡ 33) → ⊥) → ((n ≡ 27) ⊎ (n ≡ 37) → ⊥) → ((n ≡ 28) ⊎ (n ≡ 38) → ⊥) → Code.Unknown ≡ codeOf n
-unknown n a b c d =
-    rw (
-      ne-eqb n 22 (λ e. a (inl e)),
-      ne-eqb n 32 (λ e. a (inr e)),
-      ne-eqb n 23 (λ e. b (inl e)),
-      ne-eqb n 33 (λ e. b (inr e)),
-      ne-eqb n 27 (λ e. c (inl e)),
-      ne-eqb n 37 (λ e. c (inr e)),
-      ne-eqb n 28 (λ e. d (inl e)),
-      ne-eqb n 38 (λ e. d (inr e)),
-    )
-    refl
 
 -- a part that starts where record 5's column does, as the code cuts it out
 pub as-batch-is : (r b : Bool) (h p : List ℕ) (c : ℕ) → r ≡ b

@@ -13,10 +13,10 @@ use Rattle.layout.specs.declared.Near.{Near}
 use Rattle.layout.specs.declared.Sum.{Sum}
 use Rattle.layout.specs.declared.Row.{Row}
 use Rattle.layout.specs.Fields.{fileHeader, batchHeader, entry, part}
-use Rattle.rules.specs.declared.Mark.{Mark}
+use Rattle.kinds.specs.declared.Mark.{Mark}
+use Rattle.kinds.specs.Kinds.{need, nineFilled, blankFilled, fixed, allDigits, optionalText, mandatoryText, date, checkDigit, ownRule}
+use Rattle.kinds.specs.Codes.{codeOf, known, allowed, carries}
 use Rattle.rules.specs.declared.Sums.{Sums}
-use Rattle.rules.specs.Kinds.{need, nineFilled, blankFilled, fixed, allDigits, optionalText, mandatoryText, date, checkDigit, ownRule}
-use Rattle.rules.specs.Codes.{codeOf, known, allowed, carries}
 
 -- what an entry's record says, by the fields' numbers
 abbrev pub entryCode : List ℕ → ℕ

@@ -1,5 +1,3 @@
-pub mod Kinds
-pub mod Codes
 pub mod Field
 pub mod Small
 pub mod Quick

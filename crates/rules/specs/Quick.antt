@@ -3,10 +3,10 @@ use Prim.Native.Nat.{ℕ}
 use mathlib.Core.Bool.{Bool, true, false, _&&_}
 use mathlib.Core.List.{List}
 use Rattle.layout.specs.Fields.{entry, addendum, part}
-use Rattle.rules.specs.declared.Mark.{Mark}
+use Rattle.kinds.specs.declared.Mark.{Mark}
+use Rattle.kinds.specs.Kinds.{fixed, optionalText, mandatoryText, bank, account, flag}
 use Rattle.rules.specs.declared.Said.{Said}
 use Rattle.rules.specs.declared.Sums.{Sums}
-use Rattle.rules.specs.Kinds.{fixed, optionalText, mandatoryText, bank, account, flag}
 use Rattle.rules.specs.Field.{entryCode, entryBank, entryAmount, entryTrace, codeRule, checkDigitRule, amountRule, traceRule, entryTraceRule}
 
 -- an entry's numbers

@@ -1,9 +1,9 @@
 // The single-field check: a row of the record type's table against the record.
-use crate::Mark;
 use crate::Sums;
-use crate::kinds;
 use crate::near;
-use crate::own;
+use kinds::Mark;
+use kinds::own;
+use kinds::texts;
 use layout::Fault;
 use layout::Kind;
 use layout::Line;
@@ -106,13 +106,13 @@ fn kind_check(sums: Sums, header: &[u8], rec: &[u8], kind: Kind, p: &[u8]) -> Ma
         Kind::Type => Mark::Right,
         Kind::Misplaced => Mark::Wrong(Fault::Misplaced),
         Kind::Past => Mark::Wrong(Fault::Past),
-        Kind::Nines => kinds::nine_filled(p),
-        Kind::Fixed(n) => kinds::fixed(text::wide(n), p),
-        Kind::Blanks => kinds::blank_filled(p),
-        Kind::Digits => kinds::all_digits(p),
-        Kind::Optional => kinds::optional_text(p),
-        Kind::Mandatory => kinds::mandatory_text(p),
-        Kind::Date => kinds::date(p),
+        Kind::Nines => texts::nine_filled(p),
+        Kind::Fixed(n) => texts::fixed(text::wide(n), p),
+        Kind::Blanks => texts::blank_filled(p),
+        Kind::Digits => texts::all_digits(p),
+        Kind::Optional => texts::optional_text(p),
+        Kind::Mandatory => texts::mandatory_text(p),
+        Kind::Date => texts::date(p),
         Kind::Own(rule) => own::own(rule, p),
         Kind::Near(rule) => near::near(sums, header, rec, rule, p),
         Kind::AsBatch(column) => as_batch(header, place(column), p),

@@ -1,31 +1,7 @@
-// The rules for one field, and the single-field check that reads them from the record type's table.
-use layout::Fault;
-
-pub mod codes;
+// The rules that look beyond their field, and the single-field check that reads all rules from the record type's table.
 pub mod field;
-mod kinds;
 pub mod near;
-mod own;
 pub mod quick;
-
-// What a field's rules say of it: right, or the lowest number that applies.
-pub enum Mark {
-    Right,
-    Wrong(Fault),
-}
-
-// What an entry's code is for: live money, or a prenote that carries none.
-pub enum Use {
-    Live,
-    Prenote,
-}
-
-// What a transaction code says.
-pub enum Code {
-    Unknown,
-    Credit(Use),
-    Debit(Use),
-}
 
 // The numbers that an entry says, read once for its rules and for the sums.
 pub struct Said {

@@ -1,9 +1,9 @@
 // What records say by the fields' numbers, and the rules that look at another field or an earlier record.
-use crate::Mark;
 use crate::Said;
 use crate::Sums;
-use crate::codes;
-use crate::own;
+use kinds::Mark;
+use kinds::codes;
+use kinds::own;
 use layout::Fault;
 use layout::Near;
 ghost use Prim.Native.Nat.{_≤_, _<_, _^_};

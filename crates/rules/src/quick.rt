@@ -1,12 +1,12 @@
 // Entries and addenda are nearly all of a large file: their fields tested in a straight line, with no table and no branch between them.
 // The walk along the table names the refusal where one of these says no.
-use crate::Mark;
 use crate::Said;
 use crate::Sums;
-use crate::codes;
-use crate::kinds;
 use crate::near;
-use crate::own;
+use kinds::Mark;
+use kinds::codes;
+use kinds::own;
+use kinds::texts;
 ghost use Prim.Native.Nat.{_<_, _^_};
 ghost use mathlib.Core.Path.{_≡_};
 ghost use lib.ListN.{length};
@@ -48,9 +48,9 @@ pub fn entry_back(sums: Sums, header: &[u8], said: Said, rec: &[u8]) -> bool
     requires { ⌜ (length (now header) ≡ 94) × (length (now rec) ≡ 94) × (said ≡ saidOf (now rec)) × (sums .trace < 10 ^ 18) ⌝ }
     ensures { λ r. ⌜ r ≡ entryBack sums (now (header .entry)) (now (rec .entry)) ⌝ }
 {
-    let id = right(kinds::optional_text(&rec[39..54]));
-    let name = right(kinds::mandatory_text(&rec[54..76]));
-    let other = right(kinds::optional_text(&rec[76..78]));
+    let id = right(texts::optional_text(&rec[39..54]));
+    let name = right(texts::mandatory_text(&rec[54..76]));
+    let other = right(texts::optional_text(&rec[76..78]));
     let flag = right(own::flag(&rec[78..79]));
     let trace = trace_right(sums, header, said.trace, &rec[79..94]);
     id & name & other & flag & trace
@@ -61,9 +61,9 @@ pub fn addendum_all(sums: Sums, rec: &[u8]) -> bool
     requires { ⌜ length (now rec) ≡ 94 ⌝ }
     ensures { λ r. ⌜ r ≡ addendumAll sums (now (rec .entry)) ⌝ }
 {
-    let kind = right(kinds::fixed(5, &rec[1..3]));
-    let words = right(kinds::optional_text(&rec[3..83]));
-    let place = right(kinds::fixed(1, &rec[83..87]));
+    let kind = right(texts::fixed(5, &rec[1..3]));
+    let words = right(texts::optional_text(&rec[3..83]));
+    let place = right(texts::fixed(1, &rec[83..87]));
     let trace = right(near::entry_trace_rule(sums, &rec[87..94]));
     kind & words & place & trace
 }

@@ -45,12 +45,6 @@ every-take p n xs e = and-both (every p (take n xs)) (every p (drop n xs)) (sym 
 pub every-drop : (p : ℕ → Bool) (n : ℕ) (xs : List ℕ) → every p xs ≡ true → every p (drop n xs) ≡ true
 every-drop p n xs e = and-both (every p (take n xs)) (every p (drop n xs)) (sym (every-cut p n xs) ∙ e) .1
 
--- one byte more at the end
-pub every-more : (p : ℕ → Bool) (xs : List ℕ) (i : ℕ) → i < length xs → every p (take (i + 1) xs) ≡ every p (take i xs) && p (getD xs i 0)
-unfolding every
-every-more p xs i h =
-    rw (add-one, take-suc xs i 0, every-append p (take i xs) (getD xs i 0 ∷ [])) (ap (λ b. every p (take i xs) && b) (and-true (p (getD xs i 0))))
-
 -- one byte less at the front
 pub every-next : (p : ℕ → Bool) (xs : List ℕ) (i : ℕ) → i < length xs → every p (drop i xs) ≡ p (getD xs i 0) && every p (drop (i + 1) xs)
 unfolding every
@@ -164,10 +158,6 @@ pub value-snoc : (n : ℕ) (xs : List ℕ) (b : ℕ) → valueFrom n (xs ++ b �
 unfolding valueFrom
 value-snoc n xs b = value-append n xs (b ∷ [])
 
--- the same for the first i bytes of a text
-pub value-more : (n : ℕ) (xs : List ℕ) (i : ℕ) → i < length xs → valueFrom n (take (i + 1) xs) ≡ valueFrom n (take i xs) * 10 + digitOf (getD xs i 0)
-value-more n xs i h = rw (add-one, take-suc xs i 0) (value-snoc n (take i xs) (getD xs i 0))
-
 -- with one digit less at the front
 pub value-next : (n : ℕ) (xs : List ℕ) (i : ℕ) → i < length xs → valueFrom n (drop i xs) ≡ valueFrom (n * 10 + digitOf (getD xs i 0)) (drop (i + 1) xs)
 unfolding valueFrom
@@ -254,13 +244,6 @@ pub render-value : (xs : List ℕ) → digits xs ≡ true → render (length xs)
 render-value xs h =
     value-same (render (length xs) (value xs)) xs (digits-render (length xs) (value xs)) h (length-render (length xs) (value xs))
     (value-render-lt (length xs) (value xs) (value-lt xs))
-
--- what is cut at the left does not matter
-pub render-mod : (w n : ℕ) → render w (n % 10 ^ w) ≡ render w n
-render-mod w n =
-    value-same (render w (n % 10 ^ w)) (render w n) (digits-render w (n % 10 ^ w)) (digits-render w n)
-    (length-render w (n % 10 ^ w) ∙ sym (length-render w n))
-    (value-render w (n % 10 ^ w) ∙ mod-mod n (10 ^ w) ∙ sym (value-render w n))
 
 -- a digit is stored in front of those that stand already, in a loop that goes down
 pub render-turn : (n : ℕ) (xs : List ℕ) (i : ℕ) → 0 < i → i ≤ length xs

@@ -122,10 +122,6 @@ rows-joined-rest w rs rest h =
 pub rows-joined : (w : ℕ) (rs : List (List ℕ)) → AllLong w rs → rows w (length rs) (joined rs) ≡ rs
 rows-joined w rs h = rw append-nil at (rows-joined-rest w rs [] h)
 
--- and what follows too
-pub drop-joined : (w : ℕ) (rs : List (List ℕ)) (rest : List ℕ) → AllLong w rs → drop (w * length rs) (joined rs ++ rest) ≡ rest
-drop-joined w rs rest h = drop-at (joined rs) rest (w * length rs) (length-joined w rs h)
-
 -- what was cut into rows is joined again
 pub joined-rows : (w k : ℕ) (xs : List ℕ) → joined (rows w k xs) ≡ take (w * k) xs
 joined-rows w k xs = rw (rows-cut, joined-cut, total-replicate)

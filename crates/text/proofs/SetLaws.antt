@@ -102,11 +102,6 @@ module _ {ℓ} {A : Type ℓ} where
   getD-sets-before l i vs k d h =
       rw (← getD-take i (sets l i vs) k d h, ← getD-take i l k d h, take-sets l i vs i (le-refl i))
 
-  -- an element of the run
-  pub getD-sets-in : (l : List A) (i : ℕ) (vs : List A) (j : ℕ) (d : A) → i + length vs ≤ length l → j < length vs → getD (sets l i vs) (i + j) d ≡ getD vs j d
-  getD-sets-in l i vs j d h g =
-      rw (← getD-drop i (sets l i vs) j d, ← getD-take (length vs) (drop i (sets l i vs)) j d g, part-sets-at l i vs h)
-
   -- an element behind the run
   pub getD-sets-behind : (l : List A) (i : ℕ) (vs : List A) (k : ℕ) (d : A) → i + length vs ≤ k → getD (sets l i vs) k d ≡ getD l k d
   getD-sets-behind l i vs k d h = rw (← add-zero k, ← getD-drop k (sets l i vs) 0 d, ← getD-drop k l 0 d, drop-sets l i vs k h)
@@ -141,43 +136,6 @@ sets-joined w (r ∷ rs) (suc k) o vs h g e =
     let q : w * suc k + o ≡ length r + (w * k + o) = omega (arith, mul-suc w k, h .0) in
     rw (q, sets-right r (joined rs) (w * k + o) vs, sets-joined w rs k o vs (h .1) (le-of-suc-le-suc g) e)
 
--- so bytes set in a text are bytes set in one of its rows
-pub rows-sets : (w n : ℕ) (xs : List ℕ) (k o : ℕ) (vs : List ℕ) → w * n ≤ length xs → k < n → o + length vs ≤ w
-    → rows w n (sets xs (w * k + o) vs) ≡ patch (rows w n xs) k o vs
-rows-sets w n xs k o vs h g e =
-    let rs = rows w n xs in
-    let rest = drop (w * n) xs in
-    let ps = patch rs k o vs in
-    let long = rows-long w n xs h in
-    let many = length-rows w n xs in
-    let room : w * k + o + length vs ≤ length (joined rs) =
-    rw (length-joined w rs long, many) (omega (arith, mul-le-mul-left w g, mul-suc w k)) in
-    let text : xs ≡ joined rs ++ rest = sym (take-append-drop (w * n) xs) ∙ ap (λ l. l ++ rest) (sym (joined-rows w n xs)) in
-    let done : sets xs (w * k + o) vs ≡ joined ps ++ rest =
-    ap (λ l. sets l (w * k + o) vs) text
-    ∙ sets-left (joined rs) rest (w * k + o) vs room
-    ∙ ap (λ l. l ++ rest) (sets-joined w rs k o vs long (rw many g) e) in
-    rw done (rw (length-patch rs k o vs, many) at (rows-joined-rest w ps rest (patch-long w rs k o vs long)))
-
 -- the row itself
 pub patch-row : (rs : List (List ℕ)) (k o : ℕ) (vs : List ℕ) → k < length rs → getD (patch rs k o vs) k [] ≡ sets (getD rs k []) o vs
 patch-row rs k o vs h = rw patch-set (getD-set-same rs k (sets (getD rs k []) o vs) [] h)
-
--- the other rows
-pub patch-other : (rs : List (List ℕ)) (k o : ℕ) (vs : List ℕ) (j : ℕ) → j ≢ k → getD (patch rs k o vs) j [] ≡ getD rs j []
-patch-other rs k o vs j h = rw patch-set (getD-set-other rs k j (sets (getD rs k []) o vs) [] h)
-
--- columns of the row in front of the bytes
-pub patch-before : (rs : List (List ℕ)) (k o : ℕ) (vs : List ℕ) (a n : ℕ) → k < length rs → a + n ≤ o
-    → take n (drop a (getD (patch rs k o vs) k [])) ≡ take n (drop a (getD rs k []))
-patch-before rs k o vs a n h g = rw (patch-row rs k o vs h) (part-sets-before (getD rs k []) o vs a n g)
-
--- the bytes themselves
-pub patch-at : (w : ℕ) (rs : List (List ℕ)) (k o : ℕ) (vs : List ℕ) → AllLong w rs → k < length rs → o + length vs ≤ w
-    → take (length vs) (drop o (getD (patch rs k o vs) k [])) ≡ vs
-patch-at w rs k o vs l h g = rw (patch-row rs k o vs h) (part-sets-at (getD rs k []) o vs (rw (long-at w rs k l h) g))
-
--- columns behind the bytes
-pub patch-behind : (rs : List (List ℕ)) (k o : ℕ) (vs : List ℕ) (a n : ℕ) → k < length rs → o + length vs ≤ a
-    → take n (drop a (getD (patch rs k o vs) k [])) ≡ take n (drop a (getD rs k []))
-patch-behind rs k o vs a n h g = rw (patch-row rs k o vs h) (part-sets-behind (getD rs k []) o vs a n g)

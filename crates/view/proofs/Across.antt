@@ -10,12 +10,13 @@ use Rattle.text.specs.Decimal.{every, valueFrom, render}
 use Rattle.text.specs.Same.{sameBytes}
 use Rattle.text.specs.Rows.{rows, joined}
 use Rattle.layout.specs.declared.Answer.{Answer}
-use Rattle.rules.specs.Kinds.{weighed, unbroken, checkDigit}
+use Rattle.kinds.specs.Kinds.{weighed, unbroken, checkDigit}
 use Rattle.records.specs.Run.{checkedOf, runFrom, fieldsFrom}
 use Rattle.view.specs.View.{Entry, Batch, View, sumOver, bodyOf, recordsOf, fileOf, viewOf}
 use Rattle.view.specs.Table.{withEntries, withAddenda, everyRow, shaped, tableBytes, viewOfTable}
 use Rattle.view.specs.Outcome.{spotFrom, amendEntry, amendBatch, within, alteredTable, alterOf}
 use Rattle.view.specs.Runs.{alterRun, tableRun}
+use Rattle.layout.specs.declared.Way.{Way}
 
 -- a letter, and so many blanks behind it
 abbrev name : ℕ → List ℕ
@@ -54,7 +55,7 @@ two x y =
 
 pub record Across : Type 0 where
   -- its file is accepted, with the numbers of both batches
-  pub accepted : checkedOf 94 (fileOf (two 100 1000))
+  pub accepted : checkedOf Way.Plain (fileOf Way.Plain (two 100 1000))
       ≡ record {
         answer = Answer.Granted;
         batches = 2;
@@ -67,18 +68,18 @@ pub record Across : Type 0 where
   -- eleven records and nine fillers
   pub records : (length (bodyOf (two 100 1000)) + 1 ≡ 11) × (length (recordsOf (two 100 1000)) ≡ 20)
   -- file and table each say it again, and each is made of the other
-  pub read : viewOf 94 (fileOf (two 100 1000)) ≡ two 100 1000
+  pub read : viewOf Way.Plain (fileOf Way.Plain (two 100 1000)) ≡ two 100 1000
   pub table : viewOfTable (tableBytes (two 100 1000)) ≡ two 100 1000
   pub tables : (shaped (tableBytes (two 100 1000)) ≡ true) × (length (tableBytes (two 100 1000)) ≡ 109 + 190 + 372 + 80)
   -- entry 3 is the first of the second batch, entry 1 the first of the first
-  pub third : alterOf 94 (fileOf (two 100 1000)) 3 1001 ≡ record { gives = record { answer = Answer.Granted; difference = pos 1 }; leaves = fileOf (two 100 1001) }
-  pub first : alterOf 94 (fileOf (two 100 1000)) 1 99 .leaves ≡ fileOf (two 99 1000)
+  pub third : alterOf Way.Plain (fileOf Way.Plain (two 100 1000)) 3 1001 ≡ record { gives = record { answer = Answer.Granted; difference = pos 1 }; leaves = fileOf Way.Plain (two 100 1001) }
+  pub first : alterOf Way.Plain (fileOf Way.Plain (two 100 1000)) 1 99 .leaves ≡ fileOf Way.Plain (two 99 1000)
   pub third-table : alteredTable (tableBytes (two 100 1000)) 3 1001 ≡ tableBytes (two 100 1001)
   -- "the limit is tried on the total less the old amount plus the new"
   pub full : (within 999999999900 9999999999 9999999999 ≡ true) × (within 999999999999 1 1 ≡ true) × (within 999999999999 1 2 ≡ false)
   -- of three calls the last is refused, a credit of 0: the others stand
-  pub run : alterRun 94 ((3, 1001) ∷ (1, 101) ∷ (1, 0) ∷ []) (fileOf (two 100 1000)) ≡ fileOf (two 101 1001)
-  pub run-table : tableRun 94 ((3, 1001) ∷ (1, 101) ∷ (1, 0) ∷ []) (tableBytes (two 100 1000)) ≡ tableBytes (two 101 1001)
+  pub run : alterRun Way.Plain ((3, 1001) ∷ (1, 101) ∷ (1, 0) ∷ []) (fileOf Way.Plain (two 100 1000)) ≡ fileOf Way.Plain (two 101 1001)
+  pub run-table : tableRun Way.Plain ((3, 1001) ∷ (1, 101) ∷ (1, 0) ∷ []) (tableBytes (two 100 1000)) ≡ tableBytes (two 101 1001)
 
 -- all of them hold
 pub across : Across

@@ -19,9 +19,9 @@ use Rattle.text.proofs.SetLaws.{sets-same}
 use Rattle.layout.specs.declared.Answer.{Answer}
 use Rattle.layout.specs.declared.Refusal.{Refusal}
 use Rattle.layout.specs.Fields.{entry, batchControl, fileControl, part}
-use Rattle.rules.specs.declared.Use.{Use}
-use Rattle.rules.specs.declared.Code.{Code}
-use Rattle.rules.specs.Codes.{codeOf, useCarries, carries}
+use Rattle.kinds.specs.declared.Use.{Use}
+use Rattle.kinds.specs.declared.Code.{Code}
+use Rattle.kinds.specs.Codes.{codeOf, useCarries, carries}
 use Rattle.records.specs.Run.{checkedOf}
 use Rattle.view.specs.View.{Entry, View, entryRecord, entriesOf, amountOf, codeIn, fileOf, viewOf}
 use Rattle.view.specs.Table.{viewOfTable, formed, tableOf}
@@ -38,6 +38,7 @@ use Rattle.view.proofs.Bridge.{granted, accepted-view, keeps-exactly}
 use Rattle.view.proofs.BridgeFields.{never}
 use Rattle.view.proofs.Answers.{not-granted, demand-granted, then-granted, then-refused}
 use Rattle.view.proofs.RoundTrips.{file-back}
+use Rattle.layout.specs.declared.Way.{Way}
 
 -- ---- when it is granted
 
@@ -62,35 +63,35 @@ between : (v : View) (k : ℕ) → exists v k ≡ true → (1 ≤ k) × (k ≤ l
 between v k e = let b = and-both (leb 1 k) (leb k (length (entriesOf v))) e in (leb-true 1 k (b .0), leb-true k (length (entriesOf v)) (b .1))
 
 -- the table with the amount put in forms the file of the view with the amount put in
-formed-amended : (v : View) (k a : ℕ) → Sized v → exists v k ≡ true → a < 10 ^ 10 → formed (alteredTable (tableOf 94 (fileOf v)) k a) ≡ fileOf (amend v k a)
-formed-amended v k a s x few =
+formed-amended : (way : Way) (v : View) (k a : ℕ) → Sized v → exists v k ≡ true → a < 10 ^ 10 → formed way (alteredTable (tableOf way (fileOf way v)) k a) ≡ fileOf way (amend v k a)
+formed-amended way v k a s x few =
     let b = between v k x in
-    ap (λ t. formed (alteredTable t k a)) (table-of-file v s) ∙ ap formed (table-amended v k a s (b .0) (b .1) few) ∙ formed-of-table (amend v k a) (amend-sized v k a s (b .0) (b .1) few)
+    ap (λ t. formed way (alteredTable t k a)) (table-of-file way v s) ∙ ap (formed way) (table-amended v k a s (b .0) (b .1) few) ∙ formed-of-table way (amend v k a) (amend-sized v k a s (b .0) (b .1) few)
 
-module _ (f : List ℕ) (k a : ℕ) where
+module _ (way : Way) (f : List ℕ) (k a : ℕ) where
   abbrev v : View
-  v = viewOf 94 f
+  v = viewOf way f
 
   -- of an accepted file the one is the other
-  afresh : checkedOf 94 f .answer ≡ Answer.Granted → exists v k ≡ true → a < 10 ^ 10 → formed (alteredTable (tableOf 94 f) k a) ≡ fileOf (amend v k a)
+  afresh : checkedOf way f .answer ≡ Answer.Granted → exists v k ≡ true → a < 10 ^ 10 → formed way (alteredTable (tableOf way f) k a) ≡ fileOf way (amend v k a)
   afresh g x few =
-      let p = accepted-view f g in
-      ap (λ y. formed (alteredTable (tableOf 94 y) k a)) (p .form) ∙ formed-amended v k a (p .sized) x few
+      let p = accepted-view way f g in
+      ap (λ y. formed way (alteredTable (tableOf way y) k a)) (p .form) ∙ formed-amended way v k a (p .sized) x few
 
   -- every test of a granted call held
-  held : alterOf 94 f k a .gives .answer ≡ Answer.Granted
-      → (checkedOf 94 f .answer ≡ Answer.Granted) × (exists v k ≡ true) × (carries (codeOf (codeIn (entryAt v k))) a ≡ true)
+  held : alterOf way f k a .gives .answer ≡ Answer.Granted
+      → (checkedOf way f .answer ≡ Answer.Granted) × (exists v k ≡ true) × (carries (codeOf (codeIn (entryAt v k))) a ≡ true)
       × (limits v (spotOf v k) (codeOf (codeIn (entryAt v k))) (amountOf (entryAt v k)) a ≡ Answer.Granted)
-  held e = all-granted (checkedOf 94 f .answer) _ (exists v k) (carries (codeOf (codeIn (entryAt v k))) a) _ _ .0 (sym (answered (alterAnswer 94 f k a) _ (fileOf (amend v k a)) f) ∙ e)
+  held e = all-granted (checkedOf way f .answer) _ (exists v k) (carries (codeOf (codeIn (entryAt v k))) a) _ _ .0 (sym (answered (alterAnswer way f k a) _ (fileOf way (amend v k a)) f) ∙ e)
 
   -- granted exactly if the file is accepted, the entry is there, and the file written afresh with the amount is accepted
-  pub alter-exactly : (alterOf 94 f k a .gives .answer ≡ Answer.Granted) ↔ Alterable 94 f k a
+  pub alter-exactly : (alterOf way f k a .gives .answer ≡ Answer.Granted) ↔ Alterable way f k a
   alter-exactly =
       let c = codeOf (codeIn (entryAt v k)) in (
         λ e.
             let h = held e in
             let few = carried-few c a (h .2) in
-            let p = accepted-view f (h .0) in
+            let p = accepted-view way f (h .0) in
             let b = between v k (h .1) in
             record {
               accepted = h .0;
@@ -98,15 +99,15 @@ module _ (f : List ℕ) (k a : ℕ) where
               digits = omega arith;
               afresh =
                   rw (afresh (h .0) (h .1) few)
-                  (granted (amend v k a) (amend-sized v k a (p .sized) (b .0) (b .1) few) (amend-keeps v k a (p .sized) (p .keeps) (b .0) (b .1) few .1 (h .2, h .3)));
+                  (granted way (amend v k a) (amend-sized v k a (p .sized) (b .0) (b .1) few) (amend-keeps v k a (p .sized) (p .keeps) (b .0) (b .1) few .1 (h .2, h .3)));
             },
         λ h.
             let few : a < 10 ^ 10 = omega (arith, h .digits) in
-            let p = accepted-view f (h .accepted) in
+            let p = accepted-view way f (h .accepted) in
             let b = between v k (h .entry) in
-            let keeps = keeps-exactly (amend v k a) (amend-sized v k a (p .sized) (b .0) (b .1) few) .0 (rw (afresh (h .accepted) (h .entry) few) at (h .afresh)) in
+            let keeps = keeps-exactly way (amend v k a) (amend-sized v k a (p .sized) (b .0) (b .1) few) .0 (rw (afresh (h .accepted) (h .entry) few) at (h .afresh)) in
             let r = amend-keeps v k a (p .sized) (p .keeps) (b .0) (b .1) few .0 keeps in
-            answered (alterAnswer 94 f k a) _ (fileOf (amend v k a)) f ∙ all-granted (checkedOf 94 f .answer) _ (exists v k) (carries c a) _ _ .1 (h .accepted, h .entry, r .0, r .1),
+            answered (alterAnswer way f k a) _ (fileOf way (amend v k a)) f ∙ all-granted (checkedOf way f .answer) _ (exists v k) (carries c a) _ _ .1 (h .accepted, h .entry, r .0, r .1),
       )
 
 -- two amounts that a code carries lie less than 9,999,999,999 apart
@@ -136,100 +137,100 @@ refused-leaves Answer.Granted d result f r e = not-granted (sym e)
 refused-leaves (Answer.Refused p) d result f r e = (refl, refl)
 
 -- "every refusal leaves lent memory untouched", and its difference is 0
-pub alter-refused : (f : List ℕ) (k a : ℕ) (r : Refusal) → alterOf 94 f k a .gives .answer ≡ Answer.Refused r
-    → (alterOf 94 f k a .leaves ≡ f) × (alterOf 94 f k a .gives .difference ≡ pos 0)
-alter-refused f k a r e = refused-leaves (alterAnswer 94 f k a) _ (fileOf (amend (viewOf 94 f) k a)) f r e
+pub alter-refused : (way : Way) (f : List ℕ) (k a : ℕ) (r : Refusal) → alterOf way f k a .gives .answer ≡ Answer.Refused r
+    → (alterOf way f k a .leaves ≡ f) × (alterOf way f k a .gives .difference ≡ pos 0)
+alter-refused way f k a r e = refused-leaves (alterAnswer way f k a) _ (fileOf way (amend (viewOf way f) k a)) f r e
 
 -- so does a run of calls on a file that is not accepted
-pub run-refused : (calls : List (ℕ × ℕ)) (f : List ℕ) (r : Refusal) → checkedOf 94 f .answer ≡ Answer.Refused r → alterRun 94 calls f ≡ f
+pub run-refused : (way : Way) (calls : List (ℕ × ℕ)) (f : List ℕ) (r : Refusal) → checkedOf way f .answer ≡ Answer.Refused r → alterRun way calls f ≡ f
 unfolding alterRun
-run-refused [] f r e = refl
-run-refused (c ∷ calls) f r e =
+run-refused way [] f r e = refl
+run-refused way (c ∷ calls) f r e =
     let k = c .0 in
     let a = c .1 in
-    let x = answered (alterAnswer 94 f k a) _ (fileOf (amend (viewOf 94 f) k a)) f in
-    let l = alter-refused f k a r (x ∙ then-refused (checkedOf 94 f .answer) _ r e) .0 in
-    ap (alterRun 94 calls) l ∙ run-refused calls f r e
+    let x = answered (alterAnswer way f k a) _ (fileOf way (amend (viewOf way f) k a)) f in
+    let l = alter-refused way f k a r (x ∙ then-refused (checkedOf way f .answer) _ r e) .0 in
+    ap (alterRun way calls) l ∙ run-refused way calls f r e
 
-module _ (f : List ℕ) (k a : ℕ) (e : alterOf 94 f k a .gives .answer ≡ Answer.Granted) where
-  may : Alterable 94 f k a
-  may = alter-exactly f k a .0 e
+module _ (way : Way) (f : List ℕ) (k a : ℕ) (e : alterOf way f k a .gives .answer ≡ Answer.Granted) where
+  may : Alterable way f k a
+  may = alter-exactly way f k a .0 e
 
   few : a < 10 ^ 10
   few = omega (arith, may .digits)
 
-  sized : Sized (viewOf 94 f)
-  sized = accepted-view f (may .accepted) .sized
+  sized : Sized (viewOf way f)
+  sized = accepted-view way f (may .accepted) .sized
 
-  form : f ≡ fileOf (viewOf 94 f)
-  form = accepted-view f (may .accepted) .form
+  form : f ≡ fileOf way (viewOf way f)
+  form = accepted-view way f (may .accepted) .form
 
-  there : (1 ≤ k) × (k ≤ length (entriesOf (viewOf 94 f)))
-  there = between (viewOf 94 f) k (may .entry)
+  there : (1 ≤ k) × (k ≤ length (entriesOf (viewOf way f)))
+  there = between (viewOf way f) k (may .entry)
 
-  leaves : alterOf 94 f k a .leaves ≡ fileOf (amend (viewOf 94 f) k a)
-  leaves = granted-leaves (alterAnswer 94 f k a) _ (fileOf (amend (viewOf 94 f) k a)) f e .0
+  leaves : alterOf way f k a .leaves ≡ fileOf way (amend (viewOf way f) k a)
+  leaves = granted-leaves (alterAnswer way f k a) _ (fileOf way (amend (viewOf way f) k a)) f e .0
 
   -- it leaves the file that is written afresh from the table with the amount put in
-  pub alter-leaves : alterOf 94 f k a .leaves ≡ formed (alteredTable (tableOf 94 f) k a)
-  alter-leaves = leaves ∙ sym (afresh f k a (may .accepted) (may .entry) few)
+  pub alter-leaves : alterOf way f k a .leaves ≡ formed way (alteredTable (tableOf way f) k a)
+  alter-leaves = leaves ∙ sym (afresh way f k a (may .accepted) (may .entry) few)
 
   -- that file is accepted
-  pub alter-accepted : checkedOf 94 (alterOf 94 f k a .leaves) .answer ≡ Answer.Granted
-  alter-accepted = ap (λ x. checkedOf 94 x .answer) alter-leaves ∙ may .afresh
+  pub alter-accepted : checkedOf way (alterOf way f k a .leaves) .answer ≡ Answer.Granted
+  alter-accepted = ap (λ x. checkedOf way x .answer) alter-leaves ∙ may .afresh
 
   -- its table is the old one with the amount put in
-  pub alter-table : tableOf 94 (alterOf 94 f k a .leaves) ≡ alteredTable (tableOf 94 f) k a
+  pub alter-table : tableOf way (alterOf way f k a .leaves) ≡ alteredTable (tableOf way f) k a
   alter-table =
-      let v = viewOf 94 f in
-      ap (tableOf 94) leaves ∙ table-of-file (amend v k a) (amend-sized v k a sized (there .0) (there .1) few)
+      let v = viewOf way f in
+      ap (tableOf way) leaves ∙ table-of-file way (amend v k a) (amend-sized v k a sized (there .0) (there .1) few)
       ∙ sym (table-amended v k a sized (there .0) (there .1) few)
 
   -- and it is as long as before
-  pub alter-length : length (alterOf 94 f k a .leaves) ≡ length f
-  alter-length = ap length leaves ∙ file-length-amended (viewOf 94 f) k a sized (there .0) (there .1) few ∙ ap length (sym form)
+  pub alter-length : length (alterOf way f k a .leaves) ≡ length f
+  alter-length = ap length leaves ∙ file-length-amended (viewOf way f) k a sized (there .0) (there .1) few way ∙ ap length (sym form)
 
   -- "the new amount less the old, in cents"
-  pub alter-difference : alterOf 94 f k a .gives .difference ≡ pos a -ℤ pos (amountOf (entryAt (viewOf 94 f) k))
-  alter-difference = granted-leaves (alterAnswer 94 f k a) _ (fileOf (amend (viewOf 94 f) k a)) f e .1
+  pub alter-difference : alterOf way f k a .gives .difference ≡ pos a -ℤ pos (amountOf (entryAt (viewOf way f) k))
+  alter-difference = granted-leaves (alterAnswer way f k a) _ (fileOf way (amend (viewOf way f) k a)) f e .1
 
   -- from -9,999,999,998 to 9,999,999,998: a live code's amounts are at least 1, and a prenote has but the one
-  pub alter-range : (amountOf (entryAt (viewOf 94 f) k) ≤ a + 9999999998) × (a ≤ amountOf (entryAt (viewOf 94 f) k) + 9999999998)
+  pub alter-range : (amountOf (entryAt (viewOf way f) k) ≤ a + 9999999998) × (a ≤ amountOf (entryAt (viewOf way f) k) + 9999999998)
   alter-range =
-      let v = viewOf 94 f in
+      let v = viewOf way f in
       let r = entryRecord (entryAt v k) in
-      let p = accepted-view f (may .accepted) in
+      let p = accepted-view way f (may .accepted) in
       let c = codeOf (codeIn (entryAt v k)) in
       let old = amount-carried r (part entry 6 r) (all-at AmountRight (entriesOf v) (k - 1) noEntry (amounts-right 0 (v .batches) (p .keeps .batches)) (omega (arith, there .0, there .1))) .1 in
-      carried-near c (amountOf (entryAt v k)) a old (held f k a e .2)
+      carried-near c (amountOf (entryAt v k)) a old (held way f k a e .2)
 
-  same-byte : (p : ℕ) → getD (fileOf (amend (viewOf 94 f) k a)) p 0 ≡ getD (fileOf (viewOf 94 f)) p 0 → getD (alterOf 94 f k a .leaves) p 0 ≡ getD f p 0
+  same-byte : (p : ℕ) → getD (fileOf way (amend (viewOf way f) k a)) p 0 ≡ getD (fileOf way (viewOf way f)) p 0 → getD (alterOf way f k a .leaves) p 0 ≡ getD f p 0
   same-byte p h = ap (λ x. getD x p 0) leaves ∙ h ∙ ap (λ x. getD x p 0) (sym form)
 
   -- every byte outside of the amount's ten columns and of the two totals of the two controls stays
   pub alter-bytes : (p : ℕ)
-      → Outside p (fieldAt entry 6 (entryNumber (spotOf (viewOf 94 f) k))) 10
-      → Outside p (fieldAt batchControl 5 (batchControlNumber (spotOf (viewOf 94 f) k))) 12
-      → Outside p (fieldAt batchControl 6 (batchControlNumber (spotOf (viewOf 94 f) k))) 12
-      → Outside p (fieldAt fileControl 6 (fileControlNumber (viewOf 94 f))) 12
-      → Outside p (fieldAt fileControl 7 (fileControlNumber (viewOf 94 f))) 12
-      → getD (alterOf 94 f k a .leaves) p 0 ≡ getD f p 0
-  alter-bytes p o₁ o₂ o₃ o₄ o₅ = same-byte p (bytes-stay (viewOf 94 f) k a sized (there .0) (there .1) few p o₁ o₂ o₃ o₄ o₅)
+      → Outside p (fieldAt way entry 6 (entryNumber (spotOf (viewOf way f) k))) 10
+      → Outside p (fieldAt way batchControl 5 (batchControlNumber (spotOf (viewOf way f) k))) 12
+      → Outside p (fieldAt way batchControl 6 (batchControlNumber (spotOf (viewOf way f) k))) 12
+      → Outside p (fieldAt way fileControl 6 (fileControlNumber (viewOf way f))) 12
+      → Outside p (fieldAt way fileControl 7 (fileControlNumber (viewOf way f))) 12
+      → getD (alterOf way f k a .leaves) p 0 ≡ getD f p 0
+  alter-bytes p o₁ o₂ o₃ o₄ o₅ = same-byte p (bytes-stay (viewOf way f) k a sized (there .0) (there .1) few way p o₁ o₂ o₃ o₄ o₅)
 
   -- of a debit's totals the debits alone are written, of a credit's the credits alone
-  pub alter-bytes-debit : (p : ℕ) (u : Use) → codeOf (codeIn (entryAt (viewOf 94 f) k)) ≡ Code.Debit u
-      → Outside p (fieldAt entry 6 (entryNumber (spotOf (viewOf 94 f) k))) 10
-      → Outside p (fieldAt batchControl 5 (batchControlNumber (spotOf (viewOf 94 f) k))) 12
-      → Outside p (fieldAt fileControl 6 (fileControlNumber (viewOf 94 f))) 12
-      → getD (alterOf 94 f k a .leaves) p 0 ≡ getD f p 0
-  alter-bytes-debit p u c o₁ o₂ o₃ = same-byte p (bytes-stay-debit (viewOf 94 f) k a sized (there .0) (there .1) few p u c o₁ o₂ o₃)
+  pub alter-bytes-debit : (p : ℕ) (u : Use) → codeOf (codeIn (entryAt (viewOf way f) k)) ≡ Code.Debit u
+      → Outside p (fieldAt way entry 6 (entryNumber (spotOf (viewOf way f) k))) 10
+      → Outside p (fieldAt way batchControl 5 (batchControlNumber (spotOf (viewOf way f) k))) 12
+      → Outside p (fieldAt way fileControl 6 (fileControlNumber (viewOf way f))) 12
+      → getD (alterOf way f k a .leaves) p 0 ≡ getD f p 0
+  alter-bytes-debit p u c o₁ o₂ o₃ = same-byte p (bytes-stay-debit (viewOf way f) k a sized (there .0) (there .1) few way p u c o₁ o₂ o₃)
 
-  pub alter-bytes-credit : (p : ℕ) (u : Use) → codeOf (codeIn (entryAt (viewOf 94 f) k)) ≡ Code.Credit u
-      → Outside p (fieldAt entry 6 (entryNumber (spotOf (viewOf 94 f) k))) 10
-      → Outside p (fieldAt batchControl 6 (batchControlNumber (spotOf (viewOf 94 f) k))) 12
-      → Outside p (fieldAt fileControl 7 (fileControlNumber (viewOf 94 f))) 12
-      → getD (alterOf 94 f k a .leaves) p 0 ≡ getD f p 0
-  alter-bytes-credit p u c o₁ o₂ o₃ = same-byte p (bytes-stay-credit (viewOf 94 f) k a sized (there .0) (there .1) few p u c o₁ o₂ o₃)
+  pub alter-bytes-credit : (p : ℕ) (u : Use) → codeOf (codeIn (entryAt (viewOf way f) k)) ≡ Code.Credit u
+      → Outside p (fieldAt way entry 6 (entryNumber (spotOf (viewOf way f) k))) 10
+      → Outside p (fieldAt way batchControl 6 (batchControlNumber (spotOf (viewOf way f) k))) 12
+      → Outside p (fieldAt way fileControl 7 (fileControlNumber (viewOf way f))) 12
+      → getD (alterOf way f k a .leaves) p 0 ≡ getD f p 0
+  alter-bytes-credit p u c o₁ o₂ o₃ = same-byte p (bytes-stay-credit (viewOf way f) k a sized (there .0) (there .1) few way p u c o₁ o₂ o₃)
 
 -- ---- the amount that stands there
 
@@ -260,20 +261,20 @@ same-outcome : (x : Answer) (d : ℤ) (result f : List ℕ) → x ≡ Answer.Gra
 same-outcome x d result f p q r = rw (p, q, r)
 
 -- "Altering to the same amount: granted, difference 0, no byte changes"
-pub alter-same : (f : List ℕ) (k : ℕ) → checkedOf 94 f .answer ≡ Answer.Granted → exists (viewOf 94 f) k ≡ true
-    → alterOf 94 f k (amountOf (entryAt (viewOf 94 f) k)) ≡ record { gives = record { answer = Answer.Granted; difference = pos 0 }; leaves = f }
-alter-same f k g x =
-    let v = viewOf 94 f in
+pub alter-same : (way : Way) (f : List ℕ) (k : ℕ) → checkedOf way f .answer ≡ Answer.Granted → exists (viewOf way f) k ≡ true
+    → alterOf way f k (amountOf (entryAt (viewOf way f) k)) ≡ record { gives = record { answer = Answer.Granted; difference = pos 0 }; leaves = f }
+alter-same way f k g x =
+    let v = viewOf way f in
     let a = amountOf (entryAt v k) in
-    let p = accepted-view f g in
+    let p = accepted-view way f g in
     let b = between v k x in
     let r = entryRecord (entryAt v k) in
     let right = all-at AmountRight (entriesOf v) (k - 1) noEntry (amounts-right 0 (v .batches) (p .keeps .batches)) (omega arith) in
     let few = carried-few (codeOf (codeIn (entryAt v k))) a (amount-carried r (part entry 6 r) right .1) in
-    let file = ap fileOf (amend-same v k (p .sized) (p .keeps) (b .0) (b .1) few) ∙ sym (p .form) in
-    let new = ap (λ y. checkedOf 94 y .answer) (afresh f k a g x few ∙ file) ∙ g in
-    let e = alter-exactly f k a .1 (record { accepted = g; entry = x; digits = omega arith; afresh = new }) in
-    same-outcome (alterAnswer 94 f k a) _ (fileOf (amend v k a)) f (sym (answered (alterAnswer 94 f k a) _ (fileOf (amend v k a)) f) ∙ e) (+ℤ-invr (pos a)) file
+    let file = ap (fileOf way) (amend-same v k (p .sized) (p .keeps) (b .0) (b .1) few) ∙ sym (p .form) in
+    let new = ap (λ y. checkedOf way y .answer) (afresh way f k a g x few ∙ file) ∙ g in
+    let e = alter-exactly way f k a .1 (record { accepted = g; entry = x; digits = omega arith; afresh = new }) in
+    same-outcome (alterAnswer way f k a) _ (fileOf way (amend v k a)) f (sym (answered (alterAnswer way f k a) _ (fileOf way (amend v k a)) f) ∙ e) (+ℤ-invr (pos a)) file
 
 -- ---- one call after another
 
@@ -287,46 +288,46 @@ is-granted Answer.Granted e = refl
 is-granted (Answer.Refused r) e = never e
 
 -- a call on an accepted file is granted exactly if its table may take the amount
-pub may-put : (f : List ℕ) (k a : ℕ) → checkedOf 94 f .answer ≡ Answer.Granted → isGranted (alterOf 94 f k a .gives .answer) ≡ mayPut 94 (tableOf 94 f) k a
-may-put f k a g =
-    let t = tableOf 94 f in
-    let new = isGranted (checkedOf 94 (formed (alteredTable t k a)) .answer) in
-    let view = ap (λ v. exists v k) (view-of-table (viewOf 94 f) (accepted-view f g .sized)) in
-    same-test (isGranted (alterOf 94 f k a .gives .answer)) (mayPut 94 t k a)
+pub may-put : (way : Way) (f : List ℕ) (k a : ℕ) → checkedOf way f .answer ≡ Answer.Granted → isGranted (alterOf way f k a .gives .answer) ≡ mayPut way (tableOf way f) k a
+may-put way f k a g =
+    let t = tableOf way f in
+    let new = isGranted (checkedOf way (formed way (alteredTable t k a)) .answer) in
+    let view = ap (λ v. exists v k) (view-of-table (viewOf way f) (accepted-view way f g .sized)) in
+    same-test (isGranted (alterOf way f k a .gives .answer)) (mayPut way t k a)
     (λ e.
-    let h = alter-exactly f k a .0 (is-granted (alterOf 94 f k a .gives .answer) e) in
+    let h = alter-exactly way f k a .0 (is-granted (alterOf way f k a .gives .answer) e) in
     both-and (both-and (view ∙ h .entry) (le-leb a 9999999999 (h .digits))) (ap isGranted (h .afresh)))
     (λ e.
     let b = and-both (exists (viewOfTable t) k && leb a 9999999999) new e in
     let c = and-both (exists (viewOfTable t) k) (leb a 9999999999) (b .0) in
-    ap isGranted (alter-exactly f k a .1
-    (record { accepted = g; entry = sym view ∙ c .0; digits = leb-true a 9999999999 (c .1); afresh = is-granted (checkedOf 94 (formed (alteredTable t k a)) .answer) (b .1) })))
+    ap isGranted (alter-exactly way f k a .1
+    (record { accepted = g; entry = sym view ∙ c .0; digits = leb-true a 9999999999 (c .1); afresh = is-granted (checkedOf way (formed way (alteredTable t k a)) .answer) (b .1) })))
 
 -- what it leaves is accepted, and has the table that took the amount, or did not
-pub alter-step : (f : List ℕ) (k a : ℕ) → checkedOf 94 f .answer ≡ Answer.Granted
-    → (checkedOf 94 (alterOf 94 f k a .leaves) .answer ≡ Answer.Granted) × (tableOf 94 (alterOf 94 f k a .leaves) ≡ grantedTable 94 (tableOf 94 f) k a)
-alter-step f k a g = go (alterOf 94 f k a .gives .answer) refl
+pub alter-step : (way : Way) (f : List ℕ) (k a : ℕ) → checkedOf way f .answer ≡ Answer.Granted
+    → (checkedOf way (alterOf way f k a .leaves) .answer ≡ Answer.Granted) × (tableOf way (alterOf way f k a .leaves) ≡ grantedTable way (tableOf way f) k a)
+alter-step way f k a g = go (alterOf way f k a .gives .answer) refl
   where
-    taken : (x : Answer) → alterOf 94 f k a .gives .answer ≡ x → pick (isGranted x) (alteredTable (tableOf 94 f) k a) (tableOf 94 f) ≡ grantedTable 94 (tableOf 94 f) k a
-    taken x e = ap (λ b. pick b (alteredTable (tableOf 94 f) k a) (tableOf 94 f)) (ap isGranted (sym e) ∙ may-put f k a g)
+    taken : (x : Answer) → alterOf way f k a .gives .answer ≡ x → pick (isGranted x) (alteredTable (tableOf way f) k a) (tableOf way f) ≡ grantedTable way (tableOf way f) k a
+    taken x e = ap (λ b. pick b (alteredTable (tableOf way f) k a) (tableOf way f)) (ap isGranted (sym e) ∙ may-put way f k a g)
 
-    go : (x : Answer) → alterOf 94 f k a .gives .answer ≡ x
-        → (checkedOf 94 (alterOf 94 f k a .leaves) .answer ≡ Answer.Granted) × (tableOf 94 (alterOf 94 f k a .leaves) ≡ grantedTable 94 (tableOf 94 f) k a)
-    go Answer.Granted e = (alter-accepted f k a e, alter-table f k a e ∙ taken Answer.Granted e)
+    go : (x : Answer) → alterOf way f k a .gives .answer ≡ x
+        → (checkedOf way (alterOf way f k a .leaves) .answer ≡ Answer.Granted) × (tableOf way (alterOf way f k a .leaves) ≡ grantedTable way (tableOf way f) k a)
+    go Answer.Granted e = (alter-accepted way f k a e, alter-table way f k a e ∙ taken Answer.Granted e)
     go (Answer.Refused r) e =
-        let l = alter-refused f k a r e .0 in
-        (ap (λ x. checkedOf 94 x .answer) l ∙ g, ap (tableOf 94) l ∙ taken (Answer.Refused r) e)
+        let l = alter-refused way f k a r e .0 in
+        (ap (λ x. checkedOf way x .answer) l ∙ g, ap (tableOf way) l ∙ taken (Answer.Refused r) e)
 
 -- after any calls the file is accepted, and its table is the one with each granted amount put in
-pub run-table : (calls : List (ℕ × ℕ)) (f : List ℕ) → checkedOf 94 f .answer ≡ Answer.Granted
-    → (checkedOf 94 (alterRun 94 calls f) .answer ≡ Answer.Granted) × (tableOf 94 (alterRun 94 calls f) ≡ tableRun 94 calls (tableOf 94 f))
+pub run-table : (way : Way) (calls : List (ℕ × ℕ)) (f : List ℕ) → checkedOf way f .answer ≡ Answer.Granted
+    → (checkedOf way (alterRun way calls f) .answer ≡ Answer.Granted) × (tableOf way (alterRun way calls f) ≡ tableRun way calls (tableOf way f))
 unfolding alterRun tableRun
-run-table [] f g = (g, refl)
-run-table (c ∷ calls) f g =
-    let s = alter-step f (c .0) (c .1) g in
-    let r = run-table calls (alterOf 94 f (c .0) (c .1) .leaves) (s .0) in
-    (r .0, r .1 ∙ ap (tableRun 94 calls) (s .1))
+run-table way [] f g = (g, refl)
+run-table way (c ∷ calls) f g =
+    let s = alter-step way f (c .0) (c .1) g in
+    let r = run-table way calls (alterOf way f (c .0) (c .1) .leaves) (s .0) in
+    (r .0, r .1 ∙ ap (tableRun way calls) (s .1))
 
 -- so it is the file that is written afresh from that table
-pub run-file : (calls : List (ℕ × ℕ)) (f : List ℕ) → checkedOf 94 f .answer ≡ Answer.Granted → alterRun 94 calls f ≡ formed (tableRun 94 calls (tableOf 94 f))
-run-file calls f g = let r = run-table calls f g in sym (file-back (alterRun 94 calls f) (r .0) .1) ∙ ap formed (r .1)
+pub run-file : (way : Way) (calls : List (ℕ × ℕ)) (f : List ℕ) → checkedOf way f .answer ≡ Answer.Granted → alterRun way calls f ≡ formed way (tableRun way calls (tableOf way f))
+run-file way calls f g = let r = run-table way calls f g in sym (file-back way (alterRun way calls f) (r .0) .1) ∙ ap (formed way) (r .1)

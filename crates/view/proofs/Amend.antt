@@ -17,9 +17,9 @@ use Rattle.text.proofs.DecimalLaws.{length-render, value-render-lt}
 use Rattle.text.proofs.RowLaws.{length-joined}
 use Rattle.text.proofs.SetLaws.{patch-set, length-patch, sets-left, sets-right, sets-joined, part-sets-before, part-sets-at, part-sets-behind}
 use Rattle.layout.specs.Fields.{part, entry}
-use Rattle.rules.specs.declared.Use.{Use}
-use Rattle.rules.specs.declared.Code.{Code}
-use Rattle.rules.specs.Codes.{codeOf, debitPart, creditPart}
+use Rattle.kinds.specs.declared.Use.{Use}
+use Rattle.kinds.specs.declared.Code.{Code}
+use Rattle.kinds.specs.Codes.{codeOf, debitPart, creditPart}
 use Rattle.rules.specs.Field.{entryFlag}
 use Rattle.view.specs.View.{Entry, Batch, View, entryRecord, entriesOf, sumOver, recordsIn, bankOf, amountOf, codeIn, debitOf, creditOf, batchRecords}
 use Rattle.view.specs.Table.{countWide, entryWide, batchRow, addendaOf, tableBytes}
@@ -247,9 +247,6 @@ module _ (v : View) (k a : ℕ) (s : Sized v) (first : 1 ≤ k) (last : k ≤ le
 
   pub entry-amended : entryAt (amend v k a) k ≡ amended (entryAt v k) a
   entry-amended = rw entries-amended (getD-set-same (entriesOf v) (k - 1) (amended (entryAt v k) a) noEntry (omega arith))
-
-  pub entry-other : (j : ℕ) → j ≢ k - 1 → getD (entriesOf (amend v k a)) j noEntry ≡ getD (entriesOf v) j noEntry
-  entry-other j h = rw entries-amended (getD-set-other (entriesOf v) (k - 1) j (amended (entryAt v k) a) noEntry h)
 
   -- the addenda stay
   pub addenda-amended : addendaOf (amend v k a) ≡ addendaOf v

@@ -16,21 +16,24 @@ use Rattle.text.specs.Widths.{Wide, total}
 use Rattle.text.proofs.DecimalLaws.{length-render}
 use Rattle.text.proofs.SetLaws.{getD-sets-before, getD-sets-behind}
 use Rattle.layout.specs.declared.Row.{Row}
-use Rattle.layout.specs.Fields.{recordColumns, noRow, entry, batchControl, fileControl}
-use Rattle.rules.specs.declared.Use.{Use}
-use Rattle.rules.specs.declared.Code.{Code}
-use Rattle.rules.specs.Codes.{codeOf}
-use Rattle.view.specs.View.{Entry, Batch, View, written, fileRecord, entryRecord, addendumRecord, entryRecords, batchRecord, batchRecords, batchControlRecord, fileControlRecord, fillerRecord, fillersAfter, entriesOf, sumOver, recordsIn, codeIn, debitOf, creditOf, bodyOf, recordsOf, fileOf}
+use Rattle.layout.specs.declared.Way.{Way}
+use Rattle.layout.specs.Ways.{recordBytes}
+use Rattle.layout.specs.Fields.{noRow, entry, batchControl, fileControl}
+use Rattle.kinds.specs.declared.Use.{Use}
+use Rattle.kinds.specs.declared.Code.{Code}
+use Rattle.kinds.specs.Codes.{codeOf}
+use Rattle.view.specs.View.{Entry, Batch, View, closedBy, written, fileRecord, entryRecord, addendumRecord, entryRecords, batchRecord, batchRecords, batchControlRecord, fileControlRecord, fillerRecord, fillersAfter, entriesOf, sumOver, recordsIn, codeIn, debitOf, creditOf, bodyOf, recordsOf, fileOf}
 use Rattle.view.specs.Outcome.{noEntry, entryAt, spotOf, entryNumber, batchControlNumber, fileControlNumber, amended, amendEntry, amend}
 use Rattle.view.specs.Sized.{Sized}
-use Rattle.view.proofs.Lists.{fold-append, set-right, set-field, wide-set, three-set, Inside, puts, further, three-puts}
+use Rattle.view.proofs.Lists.{fold-append, set-right, set-field, wide-set, three-set, Inside, puts, further}
+use Rattle.view.proofs.Ways.{closed-three}
 use Rattle.view.proofs.Formed.{batchControlWidths, batchControlTexts, batch-control-wide, fileControlWidths, fileControlTexts, file-control-wide}
 use Rattle.view.proofs.Reading.{records-long}
 use Rattle.view.proofs.Amend.{recordsFor, amendedBatch, amended-record, amended-trace, Moved, moved, debit-moved, credit-moved, batches-length, spot-amended, spot-sized, Stands, stands, file-moved, batch-moved}
 
 -- the byte, from 0, where field k of record n begins
-abbrev pub fieldAt : List Row → ℕ → ℕ → ℕ
-fieldAt table k n = recordColumns * (n - 1) + (getD table (k - 1) noRow .first - 1)
+abbrev pub fieldAt : Way → List Row → ℕ → ℕ → ℕ
+fieldAt way table k n = recordBytes way * (n - 1) + (getD table (k - 1) noRow .first - 1)
 
 -- byte p is none of the n bytes from there on
 abbrev pub Outside : ℕ → ℕ → ℕ → Type 0
@@ -290,14 +293,18 @@ module _ (v : View) (k a : ℕ) (s : Sized v) (first : 1 ≤ k) (last : k ≤ le
   )
 
   -- so the file is the old one with the amount put in, and in the two controls what was put into them
-  file-puts : (qs us : List (ℕ × List ℕ)) → Inside 94 qs → Inside 94 us
+  file-puts : (way : Way) (qs us : List (ℕ × List ℕ)) → Inside 94 qs → Inside 94 us
       → batchControlRecord (spotOf (amend v k a) k .batch) ≡ puts (batchControlRecord (spotOf v k .batch)) qs
       → fileControlRecord (amend v k a) ≡ puts (fileControlRecord v) us
-      → fileOf (amend v k a)
-      ≡ puts (puts (sets (fileOf v) (94 * (entryNumber (spotOf v k) - 1) + 29) (render 10 a)) (further (94 * (batchControlNumber (spotOf v k) - 1)) qs)) (further (94 * (fileControlNumber v - 1)) us)
-  file-puts qs us fq fu eq eu =
-      ap joined (records-amended ∙ rw (amended-record (entryAt v k) a, eq, eu))
-      ∙ three-puts 94 (recordsOf v) (entryNumber (spotOf v k) - 1) (batchControlNumber (spotOf v k) - 1) (fileControlNumber v - 1)
+      → fileOf way (amend v k a)
+      ≡ puts (puts (sets (fileOf way v) (recordBytes way * (entryNumber (spotOf v k) - 1) + 29) (render 10 a)) (further (recordBytes way * (batchControlNumber (spotOf v k) - 1)) qs)) (further (recordBytes way * (fileControlNumber v - 1)) us)
+  file-puts way qs us fq fu eq eu =
+      let amount = puts (entryRecord (entryAt v k)) ((29, render 10 a) ∷ []) in
+      let totals = puts (batchControlRecord (spotOf v k .batch)) qs in
+      let new = set (set (set (recordsOf v) (entryNumber (spotOf v k) - 1) amount) (batchControlNumber (spotOf v k) - 1) totals) (fileControlNumber v - 1) (puts (fileControlRecord v) us) in
+      let are : recordsOf (amend v k a) ≡ new = records-amended ∙ rw (amended-record (entryAt v k) a, eq, eu) in
+      ap (λ rs. joined (map (closedBy way) rs)) are
+      ∙ closed-three way (recordsOf v) (entryNumber (spotOf v k) - 1) (batchControlNumber (spotOf v k) - 1) (fileControlNumber v - 1)
       (entryRecord (entryAt v k)) (batchControlRecord (spotOf v k .batch)) (fileControlRecord v)
       ((29, render 10 a) ∷ []) qs us (records-long v s) (in-order .0) (in-order .1) (in-order .2)
       entry-record batch-control-record file-control-record (rw length-render (lit≤ tt), tt) fq fu
@@ -319,77 +326,77 @@ module _ (v : View) (k a : ℕ) (s : Sized v) (first : 1 ≤ k) (last : k ≤ le
   batches-same = batches-length v k a s first last few
 
   -- five fields are set: the amount, the batch's two totals and the file's
-  pub file-amended : fileOf (amend v k a)
-      ≡ sets (sets (sets (sets (sets (fileOf v)
-      (fieldAt entry 6 (entryNumber (spotOf v k))) (written entry 6 a))
-      (fieldAt batchControl 5 (batchControlNumber (spotOf v k))) (written batchControl 5 (sumOver debitOf (spotOf (amend v k a) k .batch .entries))))
-      (fieldAt batchControl 6 (batchControlNumber (spotOf v k))) (written batchControl 6 (sumOver creditOf (spotOf (amend v k a) k .batch .entries))))
-      (fieldAt fileControl 6 (fileControlNumber v)) (written fileControl 6 (sumOver debitOf (entriesOf (amend v k a)))))
-      (fieldAt fileControl 7 (fileControlNumber v)) (written fileControl 7 (sumOver creditOf (entriesOf (amend v k a))))
-  file-amended =
+  pub file-amended : (way : Way) → fileOf way (amend v k a)
+      ≡ sets (sets (sets (sets (sets (fileOf way v)
+      (fieldAt way entry 6 (entryNumber (spotOf v k))) (written entry 6 a))
+      (fieldAt way batchControl 5 (batchControlNumber (spotOf v k))) (written batchControl 5 (sumOver debitOf (spotOf (amend v k a) k .batch .entries))))
+      (fieldAt way batchControl 6 (batchControlNumber (spotOf v k))) (written batchControl 6 (sumOver creditOf (spotOf (amend v k a) k .batch .entries))))
+      (fieldAt way fileControl 6 (fileControlNumber v)) (written fileControl 6 (sumOver debitOf (entriesOf (amend v k a)))))
+      (fieldAt way fileControl 7 (fileControlNumber v)) (written fileControl 7 (sumOver creditOf (entriesOf (amend v k a))))
+  file-amended way =
       let es = spotOf (amend v k a) k .batch .entries in
       let fs = entriesOf (amend v k a) in
-      file-puts ((20, render 12 (sumOver debitOf es)) ∷ (32, render 12 (sumOver creditOf es)) ∷ [])
+      file-puts way ((20, render 12 (sumOver debitOf es)) ∷ (32, render 12 (sumOver creditOf es)) ∷ [])
       ((31, render 12 (sumOver debitOf fs)) ∷ (43, render 12 (sumOver creditOf fs)) ∷ [])
       (rw length-render (lit≤ tt), (rw length-render (lit≤ tt), tt)) (rw length-render (lit≤ tt), (rw length-render (lit≤ tt), tt))
       (batch-totals (spotOf v k .batch) (spotOf (amend v k a) k .batch) (entryAt v k) a row-long row-same batch-sums)
       (file-totals v (amend v k a) (entryAt v k) a batches-same body-length file-sums)
 
   -- three of them differ where the entry is a debit
-  pub file-amended-debit : (u : Use) → codeOf (codeIn (entryAt v k)) ≡ Code.Debit u
-      → fileOf (amend v k a)
-      ≡ sets (sets (sets (fileOf v)
-      (fieldAt entry 6 (entryNumber (spotOf v k))) (written entry 6 a))
-      (fieldAt batchControl 5 (batchControlNumber (spotOf v k))) (written batchControl 5 (sumOver debitOf (spotOf (amend v k a) k .batch .entries))))
-      (fieldAt fileControl 6 (fileControlNumber v)) (written fileControl 6 (sumOver debitOf (entriesOf (amend v k a))))
-  file-amended-debit u code =
+  pub file-amended-debit : (way : Way) (u : Use) → codeOf (codeIn (entryAt v k)) ≡ Code.Debit u
+      → fileOf way (amend v k a)
+      ≡ sets (sets (sets (fileOf way v)
+      (fieldAt way entry 6 (entryNumber (spotOf v k))) (written entry 6 a))
+      (fieldAt way batchControl 5 (batchControlNumber (spotOf v k))) (written batchControl 5 (sumOver debitOf (spotOf (amend v k a) k .batch .entries))))
+      (fieldAt way fileControl 6 (fileControlNumber v)) (written fileControl 6 (sumOver debitOf (entriesOf (amend v k a))))
+  file-amended-debit way u code =
       let b′ = spotOf (amend v k a) k .batch in
-      file-puts ((20, render 12 (sumOver debitOf (b′ .entries))) ∷ []) ((31, render 12 (sumOver debitOf (entriesOf (amend v k a)))) ∷ [])
+      file-puts way ((20, render 12 (sumOver debitOf (b′ .entries))) ∷ []) ((31, render 12 (sumOver debitOf (entriesOf (amend v k a)))) ∷ [])
       (rw length-render (lit≤ tt), tt) (rw length-render (lit≤ tt), tt)
       (batch-debit (spotOf v k .batch) b′ (entryAt v k) a row-long row-same batch-sums (debit-moved batch-sums u code .1))
       (file-debit v (amend v k a) (entryAt v k) a batches-same body-length file-sums (debit-moved file-sums u code .1))
 
   -- and three where it is a credit
-  pub file-amended-credit : (u : Use) → codeOf (codeIn (entryAt v k)) ≡ Code.Credit u
-      → fileOf (amend v k a)
-      ≡ sets (sets (sets (fileOf v)
-      (fieldAt entry 6 (entryNumber (spotOf v k))) (written entry 6 a))
-      (fieldAt batchControl 6 (batchControlNumber (spotOf v k))) (written batchControl 6 (sumOver creditOf (spotOf (amend v k a) k .batch .entries))))
-      (fieldAt fileControl 7 (fileControlNumber v)) (written fileControl 7 (sumOver creditOf (entriesOf (amend v k a))))
-  file-amended-credit u code =
+  pub file-amended-credit : (way : Way) (u : Use) → codeOf (codeIn (entryAt v k)) ≡ Code.Credit u
+      → fileOf way (amend v k a)
+      ≡ sets (sets (sets (fileOf way v)
+      (fieldAt way entry 6 (entryNumber (spotOf v k))) (written entry 6 a))
+      (fieldAt way batchControl 6 (batchControlNumber (spotOf v k))) (written batchControl 6 (sumOver creditOf (spotOf (amend v k a) k .batch .entries))))
+      (fieldAt way fileControl 7 (fileControlNumber v)) (written fileControl 7 (sumOver creditOf (entriesOf (amend v k a))))
+  file-amended-credit way u code =
       let b′ = spotOf (amend v k a) k .batch in
-      file-puts ((32, render 12 (sumOver creditOf (b′ .entries))) ∷ []) ((43, render 12 (sumOver creditOf (entriesOf (amend v k a)))) ∷ [])
+      file-puts way ((32, render 12 (sumOver creditOf (b′ .entries))) ∷ []) ((43, render 12 (sumOver creditOf (entriesOf (amend v k a)))) ∷ [])
       (rw length-render (lit≤ tt), tt) (rw length-render (lit≤ tt), tt)
       (batch-credit (spotOf v k .batch) b′ (entryAt v k) a row-long row-same batch-sums (credit-moved batch-sums u code .0))
       (file-credit v (amend v k a) (entryAt v k) a batches-same body-length file-sums (credit-moved file-sums u code .0))
 
   -- the file is as long as before
-  pub file-length-amended : length (fileOf (amend v k a)) ≡ length (fileOf v)
-  file-length-amended = ap length file-amended ∙ simp length-sets
+  pub file-length-amended : (way : Way) → length (fileOf way (amend v k a)) ≡ length (fileOf way v)
+  file-length-amended way = ap length (file-amended way) ∙ simp length-sets
 
   -- and every byte outside of the fields that are set is as before
-  pub bytes-stay : (p : ℕ)
-      → Outside p (fieldAt entry 6 (entryNumber (spotOf v k))) 10
-      → Outside p (fieldAt batchControl 5 (batchControlNumber (spotOf v k))) 12
-      → Outside p (fieldAt batchControl 6 (batchControlNumber (spotOf v k))) 12
-      → Outside p (fieldAt fileControl 6 (fileControlNumber v)) 12
-      → Outside p (fieldAt fileControl 7 (fileControlNumber v)) 12
-      → getD (fileOf (amend v k a)) p 0 ≡ getD (fileOf v) p 0
-  bytes-stay p o₁ o₂ o₃ o₄ o₅ =
-      ap (λ f. getD f p 0) file-amended ∙ stays _ _ _ _ p o₅ ∙ stays _ _ _ _ p o₄ ∙ stays _ _ _ _ p o₃ ∙ stays _ _ _ _ p o₂ ∙ stays _ _ _ _ p o₁
+  pub bytes-stay : (way : Way) (p : ℕ)
+      → Outside p (fieldAt way entry 6 (entryNumber (spotOf v k))) 10
+      → Outside p (fieldAt way batchControl 5 (batchControlNumber (spotOf v k))) 12
+      → Outside p (fieldAt way batchControl 6 (batchControlNumber (spotOf v k))) 12
+      → Outside p (fieldAt way fileControl 6 (fileControlNumber v)) 12
+      → Outside p (fieldAt way fileControl 7 (fileControlNumber v)) 12
+      → getD (fileOf way (amend v k a)) p 0 ≡ getD (fileOf way v) p 0
+  bytes-stay way p o₁ o₂ o₃ o₄ o₅ =
+      ap (λ f. getD f p 0) (file-amended way) ∙ stays _ _ _ _ p o₅ ∙ stays _ _ _ _ p o₄ ∙ stays _ _ _ _ p o₃ ∙ stays _ _ _ _ p o₂ ∙ stays _ _ _ _ p o₁
 
-  pub bytes-stay-debit : (p : ℕ) (u : Use) → codeOf (codeIn (entryAt v k)) ≡ Code.Debit u
-      → Outside p (fieldAt entry 6 (entryNumber (spotOf v k))) 10
-      → Outside p (fieldAt batchControl 5 (batchControlNumber (spotOf v k))) 12
-      → Outside p (fieldAt fileControl 6 (fileControlNumber v)) 12
-      → getD (fileOf (amend v k a)) p 0 ≡ getD (fileOf v) p 0
-  bytes-stay-debit p u code o₁ o₂ o₃ =
-      ap (λ f. getD f p 0) (file-amended-debit u code) ∙ stays _ _ _ _ p o₃ ∙ stays _ _ _ _ p o₂ ∙ stays _ _ _ _ p o₁
+  pub bytes-stay-debit : (way : Way) (p : ℕ) (u : Use) → codeOf (codeIn (entryAt v k)) ≡ Code.Debit u
+      → Outside p (fieldAt way entry 6 (entryNumber (spotOf v k))) 10
+      → Outside p (fieldAt way batchControl 5 (batchControlNumber (spotOf v k))) 12
+      → Outside p (fieldAt way fileControl 6 (fileControlNumber v)) 12
+      → getD (fileOf way (amend v k a)) p 0 ≡ getD (fileOf way v) p 0
+  bytes-stay-debit way p u code o₁ o₂ o₃ =
+      ap (λ f. getD f p 0) (file-amended-debit way u code) ∙ stays _ _ _ _ p o₃ ∙ stays _ _ _ _ p o₂ ∙ stays _ _ _ _ p o₁
 
-  pub bytes-stay-credit : (p : ℕ) (u : Use) → codeOf (codeIn (entryAt v k)) ≡ Code.Credit u
-      → Outside p (fieldAt entry 6 (entryNumber (spotOf v k))) 10
-      → Outside p (fieldAt batchControl 6 (batchControlNumber (spotOf v k))) 12
-      → Outside p (fieldAt fileControl 7 (fileControlNumber v)) 12
-      → getD (fileOf (amend v k a)) p 0 ≡ getD (fileOf v) p 0
-  bytes-stay-credit p u code o₁ o₂ o₃ =
-      ap (λ f. getD f p 0) (file-amended-credit u code) ∙ stays _ _ _ _ p o₃ ∙ stays _ _ _ _ p o₂ ∙ stays _ _ _ _ p o₁
+  pub bytes-stay-credit : (way : Way) (p : ℕ) (u : Use) → codeOf (codeIn (entryAt v k)) ≡ Code.Credit u
+      → Outside p (fieldAt way entry 6 (entryNumber (spotOf v k))) 10
+      → Outside p (fieldAt way batchControl 6 (batchControlNumber (spotOf v k))) 12
+      → Outside p (fieldAt way fileControl 7 (fileControlNumber v)) 12
+      → getD (fileOf way (amend v k a)) p 0 ≡ getD (fileOf way v) p 0
+  bytes-stay-credit way p u code o₁ o₂ o₃ =
+      ap (λ f. getD f p 0) (file-amended-credit way u code) ∙ stays _ _ _ _ p o₃ ∙ stays _ _ _ _ p o₂ ∙ stays _ _ _ _ p o₁

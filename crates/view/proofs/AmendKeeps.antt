@@ -19,11 +19,11 @@ use Rattle.layout.specs.declared.Fault.{Fault}
 use Rattle.layout.specs.declared.Answer.{Answer}
 use Rattle.layout.specs.declared.Refusal.{Refusal}
 use Rattle.layout.specs.Fields.{entry, part}
-use Rattle.rules.specs.declared.Mark.{Mark}
-use Rattle.rules.specs.declared.Use.{Use}
-use Rattle.rules.specs.declared.Code.{Code}
-use Rattle.rules.specs.Kinds.{need}
-use Rattle.rules.specs.Codes.{codeOf, useCarries, carries}
+use Rattle.kinds.specs.declared.Mark.{Mark}
+use Rattle.kinds.specs.declared.Use.{Use}
+use Rattle.kinds.specs.declared.Code.{Code}
+use Rattle.kinds.specs.Kinds.{need}
+use Rattle.kinds.specs.Codes.{codeOf, useCarries, carries}
 use Rattle.rules.specs.Field.{amountRule, entryCode, entryTrace, batchNumber, totalLimit}
 use Rattle.view.specs.View.{Entry, Batch, View, batchRecord, entryRecord, entriesOf, sumOver, recordsIn, amountOf, codeIn, debitOf, creditOf, recordsOf}
 use Rattle.view.specs.Outcome.{demand, noEntry, entryAt, Spot, spotOf, amended, amendEntry, amend, within, limits}

@@ -7,10 +7,9 @@ use native.Mathlib.Omega.{arith}
 use lib.ListN.{length}
 use Rattle.layout.specs.declared.Line.{Line}
 use Rattle.layout.specs.Fields.{rowsOf}
-use Rattle.rules.specs.declared.Mark.{Mark}
+use Rattle.kinds.specs.declared.Mark.{Mark}
 use Rattle.rules.specs.declared.Sums.{Sums}
 use Rattle.records.specs.Tally.{start, noSums, addRecord, addBatch}
-use Rattle.records.specs.Run.{runFrom}
 use Rattle.view.specs.View.{Entry, Batch, View, batchRecord, recordsOf, recordsIn, sumOver}
 use Rattle.view.specs.Sized.{All, SizedBatch, Sized}
 use Rattle.view.specs.Keeps.{Right, EntriesKeep, BatchesKeep, Keeps}
@@ -19,6 +18,7 @@ use Rattle.view.proofs.Tables.{entriesIn}
 use Rattle.view.proofs.BridgeSums.{afterEntry, afterBatch, entry-count, entry-trace, batch-number, records-length, body-length}
 use Rattle.view.proofs.BridgeControls.{total-right, control-marks, file-control-marks}
 use Rattle.view.proofs.BridgeWalk.{grantedOf, pass, EntriesOk, BatchesOk, Some, file-walk}
+use Rattle.view.proofs.Ways.{bareRun}
 
 abbrev RightAt : Line → Sums → List ℕ → List ℕ → Type 0
 RightAt line s h r = Right (rowsOf line) s h r
@@ -52,7 +52,7 @@ all-some number [] k = tt
 all-some number (b ∷ bs) k = (some (b .entries) (k .0 .nonempty), all-some _ bs (k .1))
 
 -- the records of a view that keeps the rules are accepted
-pub records-accepted : (v : View) → Sized v → Keeps v → runFrom start (recordsOf v) ≡ grantedOf v
+pub records-accepted : (v : View) → Sized v → Keeps v → bareRun start (recordsOf v) ≡ grantedOf v
 records-accepted v l k =
     let all = records-length v in
     let body = body-length v in

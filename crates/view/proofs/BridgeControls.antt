@@ -12,7 +12,7 @@ use borrow.Author.Tests.{eq-eqb, le-leb}
 use Rattle.text.specs.Decimal.{every, render}
 use Rattle.text.proofs.DecimalLaws.{digits-render, value-render-lt, same-equal}
 use Rattle.layout.specs.Fields.{batchControl, fileControl}
-use Rattle.rules.specs.declared.Mark.{Mark}
+use Rattle.kinds.specs.declared.Mark.{Mark}
 use Rattle.rules.specs.declared.Sums.{Sums}
 use Rattle.rules.specs.Field.{fieldOf, countRule, hashRule, totalRule, asBatchRule, hashOf, totalLimit}
 use Rattle.records.specs.Tally.{addBatch}

@@ -18,7 +18,7 @@ use Rattle.text.proofs.DecimalLaws.{and-both}
 use Rattle.text.proofs.RowLaws.{joined-cut, length-columns}
 use Rattle.layout.specs.declared.Row.{Row}
 use Rattle.layout.specs.Fields.{noRow, part, fileHeader, batchHeader, entry, addendum, batchControl, fileControl, filler}
-use Rattle.rules.specs.declared.Mark.{Mark}
+use Rattle.kinds.specs.declared.Mark.{Mark}
 use Rattle.rules.specs.declared.Sums.{Sums}
 use Rattle.rules.specs.Field.{fieldOf, entryTraceRule}
 use Rattle.view.specs.View.{Entry, Batch, fileRecord, batchRecord, entryRecord, addendumRecord, fillerRecord}

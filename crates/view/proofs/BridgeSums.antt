@@ -8,8 +8,8 @@ use native.Mathlib.Nat.{add-assoc, zero-add}
 use native.Mathlib.Omega.{arith}
 use lib.ListN.{length, replicate, length-append, length-map, length-replicate}
 use borrow.Author.Tests.{eqb-true, eqb-false, eq-eqb, ne-eqb}
+use Rattle.kinds.specs.Codes.{codeRow}
 use Rattle.rules.specs.declared.Sums.{Sums}
-use Rattle.rules.specs.Codes.{codeRow}
 use Rattle.rules.specs.Field.{entryTrace, batchNumber}
 use Rattle.records.specs.Order.{filled}
 use Rattle.records.specs.Tally.{noSums, addRecord, addBatch, addEntry, addAddendum, addToRow}

@@ -27,6 +27,7 @@ use Rattle.view.proofs.Formed.{file-fields, addendum-fields, batch-fiel
 use Rattle.view.proofs.Tables.{entriesIn}
 use Rattle.view.proofs.BridgeFields.{right-passed}
 use Rattle.view.proofs.BridgeSums.{fillers-full, fillers-due, fillers-more, afterAddenda, afterEntry, afterEntries, afterBatch, afterBatches, afterBody, entriesRecords, batchesRecords, codesAfter, codes-append, file-sums}
+use Rattle.view.proofs.Ways.{bareRun}
 
 -- a state of the run
 abbrev pub at : Place → Sums → List ℕ → List ℕ → State
@@ -38,22 +39,22 @@ grantedOf v = accepted (at Place.FileDone (addRecord (afterBody v)) [] (codesAft
 
 -- the run behind a record's verdict
 abbrev pub carry : Verdict → State → State → List (List ℕ) → Checked
-carry v next st rs = onward (stepped v next st .verdict) (st .sums .records + 1) (runFrom (stepped v next st .state) rs)
+carry v next st rs = onward (stepped v next st .verdict) (st .sums .records + 1) (bareRun (stepped v next st .state) rs)
 
 -- a record is checked as the line that it is taken for
 pub run-line : (st : State) (line : Line) (r : List ℕ) (rs : List (List ℕ)) → lineOf st r ≡ line
-    → runFrom st (r ∷ rs) ≡ carry (fieldsFrom (firstField line) (rowsOf line) (st .sums) (st .header) r) (tally st line r) st rs
+    → bareRun st (r ∷ rs) ≡ carry (fieldsFrom (firstField line) (rowsOf line) (st .sums) (st .header) r) (tally st line r) st rs
 unfolding runFrom
 run-line st line r rs e = ap (λ l. carry (fieldsFrom (firstField l) (rowsOf l) (st .sums) (st .header) r) (tally st l r) st rs) e
 
 -- a right record passes
 pub pass : (st : State) (line : Line) (r : List ℕ) (rs : List (List ℕ)) → lineOf st r ≡ line → Right (rowsOf line) (st .sums) (st .header) r
-    → runFrom st (r ∷ rs) ≡ runFrom (tally st line r) rs
+    → bareRun st (r ∷ rs) ≡ bareRun (tally st line r) rs
 pass st line r rs e g =
     run-line st line r rs e ∙ ap (λ v. carry v (tally st line r) st rs) (right-passed (firstField line) (rowsOf line) (st .sums) (st .header) r g)
 
 -- fillers pass, and then the file is complete
-fillers-run : (k : ℕ) (s : Sums) (h c : List ℕ) → fillersAfter (s .records) ≡ k → runFrom (at Place.FileDone s h c) (replicate k fillerRecord) ≡ accepted (at Place.FileDone s h c)
+fillers-run : (k : ℕ) (s : Sums) (h c : List ℕ) → fillersAfter (s .records) ≡ k → bareRun (at Place.FileDone s h c) (replicate k fillerRecord) ≡ accepted (at Place.FileDone s h c)
 unfolding runFrom every
 fillers-run zero s h c e = rw (fillers-full (s .records) e)
 fillers-run (suc k) s h c e =
@@ -93,13 +94,13 @@ Some Stop [] = Stop
 Some Stop (x ∷ xs) = Unit {0}
 
 module _ (P : Checked → Type 0) (Ok : Line → Sums → List ℕ → List ℕ → Type 0) (Stop : Type 0)
-    (step : (st : State) (line : Line) (r : List ℕ) (rs : List (List ℕ)) → lineOf st r ≡ line → Ok line (st .sums) (st .header) r → P (runFrom (tally st line r) rs) → P (runFrom st (r ∷ rs)))
-    (stop : Stop → (st : State) (r : List ℕ) (rs : List (List ℕ)) → lineOf st r ≡ Line.Other → P (runFrom st (r ∷ rs))) where
+    (step : (st : State) (line : Line) (r : List ℕ) (rs : List (List ℕ)) → lineOf st r ≡ line → Ok line (st .sums) (st .header) r → P (bareRun (tally st line r) rs) → P (bareRun st (r ∷ rs)))
+    (stop : Stop → (st : State) (r : List ℕ) (rs : List (List ℕ)) → lineOf st r ≡ Line.Other → P (bareRun st (r ∷ rs))) where
   -- an entry's addenda
   addenda-walk : (e : Entry) → length (e .row) ≡ 93 → (s : Sums) (h c : List ℕ) (texts : List (List ℕ)) (rest : List (List ℕ)) (b : Bool)
       → length texts ≡ pick b 1 0 → AllLong 80 texts → All (λ text. Ok Line.Addendum s h (addendumRecord e text)) texts
-      → P (runFrom (at Place.EntryDone (afterAddenda s texts) h c) rest)
-      → P (runFrom (at (pick b Place.AddendumDue Place.EntryDone) s h c) (map (addendumRecord e) texts ++ rest))
+      → P (bareRun (at Place.EntryDone (afterAddenda s texts) h c) rest)
+      → P (bareRun (at (pick b Place.AddendumDue Place.EntryDone) s h c) (map (addendumRecord e) texts ++ rest))
   addenda-walk e l s h c [] rest true d t k p = absurd (omega arith)
   addenda-walk e l s h c [] rest false d t k p = p
   addenda-walk e l s h c (text ∷ []) rest true d t k p =
@@ -111,8 +112,8 @@ module _ (P : Checked → Type 0) (Ok : Line → Sums → List ℕ → List ℕ 
   -- one entry, and then the others
   cons-walk : (place : Place) → ((n : ℕ) → lineAt place n 54 ≡ Line.Entry) → (s : Sums) (h c : List ℕ) (e : Entry) (es : List Entry) (rest : List (List ℕ))
       → SizedEntry e → EntriesOk Ok s h (e ∷ es)
-      → P (runFrom (at Place.EntryDone (afterEntry s e) h (codesAfter c (e ∷ []))) (entriesRecords es ++ rest))
-      → P (runFrom (at place s h c) (entriesRecords (e ∷ es) ++ rest))
+      → P (bareRun (at Place.EntryDone (afterEntry s e) h (codesAfter c (e ∷ []))) (entriesRecords es ++ rest))
+      → P (bareRun (at place s h c) (entriesRecords (e ∷ es) ++ rest))
   cons-walk place o s h c e es rest l k p =
       step (at place s h c) Line.Entry (entryRecord e) ((map (addendumRecord e) (e .addenda) ++ entriesRecords es) ++ rest) (o (s .records)) (k .0)
       (rw (append-assoc (map (addendumRecord e) (e .addenda)) (entriesRecords es) rest)
@@ -120,14 +121,14 @@ module _ (P : Checked → Type 0) (Ok : Line → Sums → List ℕ → List ℕ 
 
   -- entries behind the first
   entries-walk : (s : Sums) (h c : List ℕ) (es : List Entry) (rest : List (List ℕ)) → All SizedEntry es → EntriesOk Ok s h es
-      → P (runFrom (at Place.EntryDone (afterEntries s es) h (codesAfter c es)) rest) → P (runFrom (at Place.EntryDone s h c) (entriesRecords es ++ rest))
+      → P (bareRun (at Place.EntryDone (afterEntries s es) h (codesAfter c es)) rest) → P (bareRun (at Place.EntryDone s h c) (entriesRecords es ++ rest))
   entries-walk s h c [] rest l k p = p
   entries-walk s h c (e ∷ es) rest l k p =
       cons-walk Place.EntryDone (λ n. refl) s h c e es rest (l .0) k (entries-walk (afterEntry s e) h (codesAfter c (e ∷ [])) es rest (l .1) (k .2) p)
 
   -- the first entry stands where the batch is open, and its control does not
   first-walk : (s : Sums) (h c : List ℕ) (es : List Entry) (r : List ℕ) (rest : List (List ℕ)) → getD r 0 0 ≡ 56 → Some Stop es → All SizedEntry es → EntriesOk Ok s h es
-      → P (runFrom (at Place.EntryDone (afterEntries s es) h (codesAfter c es)) (r ∷ rest)) → P (runFrom (at Place.BatchOpen s h c) (entriesRecords es ++ (r ∷ rest)))
+      → P (bareRun (at Place.EntryDone (afterEntries s es) h (codesAfter c es)) (r ∷ rest)) → P (bareRun (at Place.BatchOpen s h c) (entriesRecords es ++ (r ∷ rest)))
   first-walk s h c [] r rest b m l k p = stop m (at Place.BatchOpen s h c) r rest (rw b)
   first-walk s h c (e ∷ es) r rest b m l k p =
       cons-walk Place.BatchOpen (λ n. refl) s h c e es (r ∷ rest) (l .0) k (entries-walk (afterEntry s e) h (codesAfter c (e ∷ [])) es (r ∷ rest) (l .1) (k .2) p)
@@ -135,8 +136,8 @@ module _ (P : Checked → Type 0) (Ok : Line → Sums → List ℕ → List ℕ 
   -- one batch, and then the others
   batch-walk : (place : Place) → ((n : ℕ) → lineAt place n 53 ≡ Line.BatchHeader) → (s : Sums) (h c : List ℕ) (b : Batch) (bs : List Batch) (rest : List (List ℕ))
       → SizedBatch b → Some Stop (b .entries) → BatchOk Ok s b
-      → P (runFrom (at Place.BatchDone (afterBatch s b) (batchRecord b) (codesAfter c (b .entries))) (batchesRecords bs ++ rest))
-      → P (runFrom (at place s h c) (batchesRecords (b ∷ bs) ++ rest))
+      → P (bareRun (at Place.BatchDone (afterBatch s b) (batchRecord b) (codesAfter c (b .entries))) (batchesRecords bs ++ rest))
+      → P (bareRun (at place s h c) (batchesRecords (b ∷ bs) ++ rest))
   batch-walk place o s h c b bs rest l m k p =
       let f = batch-fields b (l .long) in
       let r = batchRecord b in
@@ -150,7 +151,7 @@ module _ (P : Checked → Type 0) (Ok : Line → Sums → List ℕ → List ℕ 
 
   -- batches behind the first; the record 5 of the last one stays
   batches-walk : (s : Sums) (h c : List ℕ) (bs : List Batch) (rest : List (List ℕ)) → All SizedBatch bs → All (λ b. Some Stop (b .entries)) bs → BatchesOk Ok s bs
-      → ((h′ : List ℕ) → P (runFrom (at Place.BatchDone (afterBatches s bs) h′ (codesAfter c (entriesIn bs))) rest)) → P (runFrom (at Place.BatchDone s h c) (batchesRecords bs ++ rest))
+      → ((h′ : List ℕ) → P (bareRun (at Place.BatchDone (afterBatches s bs) h′ (codesAfter c (entriesIn bs))) rest)) → P (bareRun (at Place.BatchDone s h c) (batchesRecords bs ++ rest))
   batches-walk s h c [] rest l m k p = p h
   batches-walk s h c (b ∷ bs) rest l m k p =
       batch-walk Place.BatchDone (λ n. refl) s h c b bs rest (l .0) (m .0) (k .0)
@@ -158,20 +159,20 @@ module _ (P : Checked → Type 0) (Ok : Line → Sums → List ℕ → List ℕ 
 
   -- the first batch stands where the file is open, and its control does not
   open-walk : (s : Sums) (h c : List ℕ) (bs : List Batch) (r : List ℕ) (rest : List (List ℕ)) → getD r 0 0 ≡ 57 → Some Stop bs → All SizedBatch bs → All (λ b. Some Stop (b .entries)) bs → BatchesOk Ok s bs
-      → ((h′ : List ℕ) → P (runFrom (at Place.BatchDone (afterBatches s bs) h′ (codesAfter c (entriesIn bs))) (r ∷ rest))) → P (runFrom (at Place.FileOpen s h c) (batchesRecords bs ++ (r ∷ rest)))
+      → ((h′ : List ℕ) → P (bareRun (at Place.BatchDone (afterBatches s bs) h′ (codesAfter c (entriesIn bs))) (r ∷ rest))) → P (bareRun (at Place.FileOpen s h c) (batchesRecords bs ++ (r ∷ rest)))
   open-walk s h c [] r rest b n l m k p = stop n (at Place.FileOpen s h c) r rest (rw b)
   open-walk s h c (x ∷ bs) r rest b n l m k p =
       batch-walk Place.FileOpen (λ i. refl) s h c x bs (r ∷ rest) (l .0) (m .0) (k .0)
       (batches-walk (afterBatch s x) (batchRecord x) (codesAfter c (x .entries)) bs (r ∷ rest) (l .1) (m .1) (k .1) (λ h′. rw (← codes-append c (x .entries) (entriesIn bs)) (p h′)))
 
   -- the records of a view: if each is ok where it stands, what holds of the grant holds of the run
-  pub file-walk : (v : View) → Sized v → Some Stop (v .batches) → All (λ b. Some Stop (b .entries)) (v .batches) → FileOk Ok v → P (grantedOf v) → P (runFrom start (recordsOf v))
+  pub file-walk : (v : View) → Sized v → Some Stop (v .batches) → All (λ b. Some Stop (b .entries)) (v .batches) → FileOk Ok v → P (grantedOf v) → P (bareRun start (recordsOf v))
   file-walk v l n m k p =
       let fillers = replicate (fillersAfter (length (bodyOf v) + 1)) fillerRecord in
       let control = fileControlRecord v in
       let typed = file-control-fields v .type in
       let c = codesAfter (replicate 16 0) (entriesOf v) in
-      let end : (h : List ℕ) → runFrom (at Place.FileDone (addRecord (afterBody v)) h c) fillers ≡ grantedOf v = λ h. fillers-run (fillersAfter (length (bodyOf v) + 1)) (addRecord (afterBody v)) h c (rw (file-sums v .records) refl) in
+      let end : (h : List ℕ) → bareRun (at Place.FileDone (addRecord (afterBody v)) h c) fillers ≡ grantedOf v = λ h. fillers-run (fillersAfter (length (bodyOf v) + 1)) (addRecord (afterBody v)) h c (rw (file-sums v .records) refl) in
       step start Line.FileHeader (fileRecord v) (batchesRecords (v .batches) ++ (control ∷ fillers)) (rw (file-fields v (l .long) .type)) (k .header)
       (open-walk (addRecord noSums) (start .header) (replicate 16 0) (v .batches) control fillers typed n (l .each) m (k .batches)
       (λ h. step (at Place.BatchDone (afterBody v) h c) Line.FileControl control fillers (rw typed) (k .control h) (rw (end h) p)))

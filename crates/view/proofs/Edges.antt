@@ -7,8 +7,8 @@ use lib.ListN.{length, drop, replicate}
 use Rattle.text.specs.Decimal.{every, valueFrom, render}
 use Rattle.layout.specs.Fields.{part, entry}
 use Rattle.layout.specs.Paper.{numberOf}
-use Rattle.rules.specs.declared.Mark.{Mark}
-use Rattle.rules.specs.Kinds.{date, time, weighed, checkDigit, unbroken, account}
+use Rattle.kinds.specs.declared.Mark.{Mark}
+use Rattle.kinds.specs.Kinds.{date, time, weighed, checkDigit, unbroken, account}
 use Rattle.rules.specs.Field.{amountRule, hashOf, hashRule, totalRule}
 use Rattle.view.specs.View.{Entry, View, entryRecord, sumOver, bankOf, creditOf, fillersAfter, fillerRecord, bodyOf, recordsOf}
 

@@ -2,6 +2,7 @@ pub mod Across
 pub mod Whole
 pub mod Formed
 pub mod Lists
+pub mod Ways
 pub mod Reading
 pub mod Tables
 pub mod Amend
@@ -15,6 +16,7 @@ pub mod BridgeWalk
 pub mod BridgeControls
 pub mod BridgeComplete
 pub mod Bridge
+pub mod Twins
 pub mod Own
 pub mod Refusals
 pub mod Edges

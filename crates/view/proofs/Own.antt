@@ -16,24 +16,26 @@ use Rattle.text.proofs.RowLaws.{rows-joined}
 use Rattle.layout.specs.declared.Answer.{Answer}
 use Rattle.layout.specs.declared.Checked.{Checked}
 use Rattle.layout.specs.declared.Fault.{Fault}
-use Rattle.rules.specs.declared.Mark.{Mark}
-use Rattle.rules.specs.Kinds.{need}
+use Rattle.kinds.specs.declared.Mark.{Mark}
+use Rattle.kinds.specs.Kinds.{need}
+use Rattle.kinds.specs.Codes.{codeOf, codeRow, known, allowed}
 use Rattle.rules.specs.Field.{codeRule, batchClass}
-use Rattle.rules.specs.Codes.{codeOf, codeRow, known, allowed}
 use Rattle.records.specs.Tally.{addToRow}
-use Rattle.records.specs.Run.{checkedOf}
+use Rattle.records.specs.Run.{checkedOf, columnsIn}
 use Rattle.view.specs.View.{Entry, Batch, View, sumOver, codeIn, amountOf, debitOf, creditOf, entriesOf, recordsOf, fileOf, viewOf}
 use Rattle.view.specs.Table.{addendaOf, viewOfTable, tableOf}
 use Rattle.view.specs.Sized.{All, SizedBatch, Sized}
 use Rattle.view.specs.Keeps.{EntriesKeep, BatchesKeep, Keeps, codes, countBy, centsBy}
 use Rattle.view.proofs.Lists.{all-append}
 use Rattle.view.proofs.Formed.{BatchControlFields, batch-control-fields, FileControlFields, file-control-fields}
+use Rattle.view.proofs.Ways.{columns-back}
 use Rattle.view.proofs.Reading.{records-long, file-length}
 use Rattle.view.proofs.Tables.{entriesIn, view-of-table}
 use Rattle.view.proofs.BridgeFields.{by-eq, never, need-right}
 use Rattle.view.proofs.BridgeSums.{codesAfter, file-sums, count-records}
 use Rattle.view.proofs.BridgeWalk.{grantedOf}
 use Rattle.view.proofs.Bridge.{accepted-view, accepted-gives}
+use Rattle.layout.specs.declared.Way.{Way}
 
 -- ---- the rows by code
 
@@ -168,28 +170,27 @@ granted-told v k =
     }
 
 -- the numbers of an acceptance are those of the file's own batches, entries and addenda
-pub own-entries : (f : List ℕ) → checkedOf 94 f .answer ≡ Answer.Granted → Told (checkedOf 94 f) (viewOf 94 f)
-own-entries f e = subst (λ c. Told c (viewOf 94 f)) (sym (accepted-gives f e)) (granted-told (viewOf 94 f) (accepted-view f e .keeps))
+pub own-entries : (way : Way) (f : List ℕ) → checkedOf way f .answer ≡ Answer.Granted → Told (checkedOf way f) (viewOf way f)
+own-entries way f e = subst (λ c. Told c (viewOf way f)) (sym (accepted-gives way f e)) (granted-told (viewOf way f) (accepted-view way f e .keeps))
 
 -- the records of an accepted file, its controls among them, are those that its view makes
-pub own-records : (f : List ℕ) → checkedOf 94 f .answer ≡ Answer.Granted → rows 94 (length f / 94) f ≡ recordsOf (viewOf 94 f)
-own-records f e = let p = accepted-view f e in file-records f (viewOf 94 f) (p .sized) (p .form)
-  where
-    file-records : (x : List ℕ) (v : View) → Sized v → x ≡ fileOf v → rows 94 (length x / 94) x ≡ recordsOf v
-    file-records x v l g = rw (g, file-length v l, mul-div-right (length (recordsOf v)) (lit< {m = 0} {n = 94} tt), rows-joined 94 (recordsOf v) (records-long v l))
+pub own-records : (way : Way) (f : List ℕ) → checkedOf way f .answer ≡ Answer.Granted → columnsIn way f ≡ recordsOf (viewOf way f)
+own-records way f e =
+    let p = accepted-view way f e in
+    ap (columnsIn way) (p .form) ∙ columns-back way (recordsOf (viewOf way f)) (records-long (viewOf way f) (p .sized))
 
 -- and every field of a control is the text of such a sum
-pub own-controls : (f : List ℕ) → checkedOf 94 f .answer ≡ Answer.Granted → All BatchControlFields (viewOf 94 f .batches) × FileControlFields (viewOf 94 f)
-own-controls f e = (each (viewOf 94 f .batches) (accepted-view f e .sized .each), file-control-fields (viewOf 94 f))
+pub own-controls : (way : Way) (f : List ℕ) → checkedOf way f .answer ≡ Answer.Granted → All BatchControlFields (viewOf way f .batches) × FileControlFields (viewOf way f)
+own-controls way f e = (each (viewOf way f .batches) (accepted-view way f e .sized .each), file-control-fields (viewOf way f))
   where
     each : (bs : List Batch) → All SizedBatch bs → All BatchControlFields bs
     each [] l = tt
     each (b ∷ bs) l = (batch-control-fields b (l .0 .long), each bs (l .1))
 
 -- what the pay table's entries come to is the file's two totals
-pub own-table : (f : List ℕ) → checkedOf 94 f .answer ≡ Answer.Granted
-    → (sumOver debitOf (entriesOf (viewOfTable (tableOf 94 f))) ≡ checkedOf 94 f .debit) × (sumOver creditOf (entriesOf (viewOfTable (tableOf 94 f))) ≡ checkedOf 94 f .credit)
-own-table f e =
-    let told = own-entries f e in
-    let same = view-of-table (viewOf 94 f) (accepted-view f e .sized) in
+pub own-table : (way : Way) (f : List ℕ) → checkedOf way f .answer ≡ Answer.Granted
+    → (sumOver debitOf (entriesOf (viewOfTable (tableOf way f))) ≡ checkedOf way f .debit) × (sumOver creditOf (entriesOf (viewOfTable (tableOf way f))) ≡ checkedOf way f .credit)
+own-table way f e =
+    let told = own-entries way f e in
+    let same = view-of-table (viewOf way f) (accepted-view way f e .sized) in
     (ap (λ v. sumOver debitOf (entriesOf v)) same ∙ sym (told .debit), ap (λ v. sumOver creditOf (entriesOf v)) same ∙ sym (told .credit))

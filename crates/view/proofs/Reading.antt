@@ -1,15 +1,16 @@
 -- A file says what it was formed of.
 -- Assumes the view's sizes.
-use mathlib.Core.Path.{_≡_, refl, ap}
+use mathlib.Core.Path.{_≡_, refl, ap, _∙_}
 use mathlib.Core.List.{List, [], _∷_, _++_, map, foldr, foldr-append}
 use Prim.Native.Nat.{ℕ, zero, suc, _+_, _*_}
-use native.Mathlib.Nat.{mul-div-right}
-use lib.Dec.{lit<}
 use lib.ListN.{length, replicate, take-append-drop}
 use Rattle.text.specs.Widths.{AllLong}
-use Rattle.text.proofs.RowLaws.{long-append, length-joined, rows-joined}
+use Rattle.text.proofs.RowLaws.{long-append}
+use Rattle.layout.specs.declared.Way.{Way}
+use Rattle.layout.specs.Ways.{recordBytes}
 use Rattle.view.specs.View.{Entry, Batch, View, Reading, nothing, gather, addendumRecord, entryRecords, batchRecords, batchControlRecord, fileControlRecord, fillersAfter, fillerRecord, bodyOf, recordsOf, fileOf, viewOfRecords, viewOf}
 use Rattle.view.specs.Sized.{All, SizedEntry, SizedBatch, Sized}
+use Rattle.view.proofs.Ways.{closed-length, columns-back}
 use Rattle.view.proofs.Formed.{file-fields, batch-fields, entry-fields, addendum-fields, batch-control-fields, file-control-fields}
 
 -- what is read so far
@@ -83,11 +84,10 @@ pub records-long : (v : View) → Sized v → AllLong 94 (recordsOf v)
 records-long v s =
     long-append 94 (bodyOf v) _ (file-fields v (s .long) .long, long-batches (v .batches) (s .each)) (file-control-fields v .long, long-fillers (fillersAfter (length (bodyOf v) + 1)))
 
--- so its length is theirs
-pub file-length : (v : View) → Sized v → length (fileOf v) ≡ 94 * length (recordsOf v)
-file-length v s = length-joined 94 (recordsOf v) (records-long v s)
+-- so the file's length is theirs, line ends included
+pub file-length : (way : Way) (v : View) → Sized v → length (fileOf way v) ≡ recordBytes way * length (recordsOf v)
+file-length way v s = closed-length way (recordsOf v) (records-long v s)
 
 -- a file says the view that it was formed of
-pub view-of-file : (v : View) → Sized v → viewOf 94 (fileOf v) ≡ v
-view-of-file v s =
-    rw (file-length v s, mul-div-right (length (recordsOf v)) (lit< {m = 0} {n = 94} tt), rows-joined 94 (recordsOf v) (records-long v s)) (view-of-records v s)
+pub view-of-file : (way : Way) (v : View) → Sized v → viewOf way (fileOf way v) ≡ v
+view-of-file way v s = ap viewOfRecords (columns-back way (recordsOf v) (records-long v s)) ∙ view-of-records v s

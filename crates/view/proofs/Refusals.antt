@@ -24,14 +24,14 @@ use Rattle.layout.specs.declared.Row.{Row}
 use Rattle.layout.specs.declared.Line.{Line}
 use Rattle.layout.specs.Paper.{numberOf}
 use Rattle.layout.specs.Fields.{rowsOf, firstField, fileHeader, batchHeader, entry, addendum, batchControl, fileControl}
-use Rattle.rules.specs.declared.Mark.{Mark}
+use Rattle.kinds.specs.declared.Mark.{Mark}
+use Rattle.kinds.specs.Kinds.{need, fixed, leads, destination, ownRule}
 use Rattle.rules.specs.declared.Sums.{Sums}
-use Rattle.rules.specs.Kinds.{need, fixed, leads, destination, ownRule}
 use Rattle.rules.specs.Field.{fieldOf, kindRule, nearRule, totalRule, totalLimit}
 use Rattle.records.specs.declared.State.{State}
 use Rattle.records.specs.declared.Verdict.{Verdict}
 use Rattle.records.specs.Tally.{start, noSums, addRecord, addBatch, addEntry, tally}
-use Rattle.records.specs.Run.{found, fieldsFrom, lineOf, runFrom, mostRecords, checkedOf}
+use Rattle.records.specs.Run.{found, fieldsFrom, lineOf, mostRecords, checkedOf}
 use Rattle.view.specs.View.{Entry, Batch, View, fileRecord, batchRecord, entryRecord, addendumRecord, batchControlRecord, fileControlRecord, recordsOf, recordsIn, sumOver, fileOf}
 use Rattle.view.specs.Table.{shaped, formed, viewOfTable}
 use Rattle.view.specs.Sized.{All, SizedEntry, SizedBatch, Sized}
@@ -43,7 +43,9 @@ use Rattle.view.proofs.BridgeFields.{never}
 use Rattle.view.proofs.BridgeSums.{afterEntry, afterBatch, afterBody, records-length, body-length}
 use Rattle.view.proofs.BridgeControls.{total-right, control-marks, file-control-marks}
 use Rattle.view.proofs.BridgeWalk.{carry, run-line, EntriesOk, BatchesOk, Some, file-walk}
-use Rattle.view.proofs.Bridge.{checked-joined}
+use Rattle.view.proofs.Bridge.{checked-joined, checked-many}
+use Rattle.layout.specs.declared.Way.{Way}
+use Rattle.view.proofs.Ways.{bareRun}
 
 -- the paper's numbers that such a file can be refused with: 1, 3, 6 to 17 and 20, and 5 for the blank that record 1, field 3 begins with
 abbrev pub anywhere : ℕ → Bool
@@ -272,12 +274,12 @@ batches-fine s (b ∷ bs) l n =
 abbrev FineRun : Checked → Type 0
 FineRun c = fine (c .answer) ≡ true
 
-carry-fine : (v : Verdict) (next st : State) (rs : List (List ℕ)) → fineVerdict (st .sums .records + 1) v ≡ true → FineRun (runFrom next rs) → FineRun (carry v next st rs)
+carry-fine : (v : Verdict) (next st : State) (rs : List (List ℕ)) → fineVerdict (st .sums .records + 1) v ≡ true → FineRun (bareRun next rs) → FineRun (carry v next st rs)
 carry-fine Verdict.Passed next st rs e p = p
 carry-fine (Verdict.Failed fault k) next st rs e p = e
 
 -- a record that may not stand there: an empty batch, or a file with no batch
-stop-fine : (st : State) (r : List ℕ) (rs : List (List ℕ)) → lineOf st r ≡ Line.Other → FineRun (runFrom st (r ∷ rs))
+stop-fine : (st : State) (r : List ℕ) (rs : List (List ℕ)) → lineOf st r ≡ Line.Other → FineRun (bareRun st (r ∷ rs))
 unfolding fieldsFrom
 stop-fine st r rs e = rw (run-line st Line.Other r rs e) refl
 
@@ -291,7 +293,7 @@ all-any [] = tt
 all-any (b ∷ bs) = (any (b .entries), all-any bs)
 
 -- the records of a view
-records-fine : (v : View) → Sized v → length (recordsOf v) ≤ mostRecords → FineRun (runFrom start (recordsOf v))
+records-fine : (v : View) → Sized v → length (recordsOf v) ≤ mostRecords → FineRun (bareRun start (recordsOf v))
 records-fine v l m =
     let all = records-length v in
     let body = body-length v in
@@ -305,29 +307,29 @@ records-fine v l m =
     refl
 
 -- too many records are refused 1
-view-fine : (v : View) → Sized v → FineRun (checkedOf 94 (fileOf v))
-view-fine v l = go (leb (length (recordsOf v)) mostRecords) refl
+view-fine : (way : Way) (v : View) → Sized v → FineRun (checkedOf way (fileOf way v))
+view-fine way v l = go (leb (length (recordsOf v)) mostRecords) refl
   where
     some : 1 ≤ length (recordsOf v)
     some = let all = records-length v in omega arith
 
-    go : (b : Bool) → leb (length (recordsOf v)) mostRecords ≡ b → FineRun (checkedOf 94 (fileOf v))
+    go : (b : Bool) → leb (length (recordsOf v)) mostRecords ≡ b → FineRun (checkedOf way (fileOf way v))
     go true e =
         let m = leb-true (length (recordsOf v)) mostRecords e in
-        rw (checked-joined 94 (recordsOf v) (lit< tt) (records-long v l) some m) (records-fine v l m)
+        rw (checked-joined way (recordsOf v) (records-long v l) some m) (records-fine v l m)
     go false e =
         let m = leb-false (length (recordsOf v)) mostRecords e in
-        rw (file-length v l, le-leb 1 (94 * length (recordsOf v)) (omega arith), mul-mod-right 94 (length (recordsOf v)), lt-leb (94 * length (recordsOf v)) (94 * mostRecords) (omega arith)) refl
+        rw (checked-many way (recordsOf v) (records-long v l) m) refl
 
 -- a view of right sizes: its file is granted, or refused with one of these numbers
-pub view-refusals : (v : View) → Sized v → (x : Refusal) → checkedOf 94 (fileOf v) .answer ≡ Answer.Refused x
+pub view-refusals : (way : Way) (v : View) → Sized v → (x : Refusal) → checkedOf way (fileOf way v) .answer ≡ Answer.Refused x
     → ofTable (numberOf (x .fault)) (x .record .0) (x .field) ≡ true
-view-refusals v l x e = rw e at (view-fine v l)
+view-refusals way v l x e = rw e at (view-fine way v l)
 
 -- so is the file that is formed of a table of right shape
-pub table-refusals : (t : List ℕ) → shaped t ≡ true → (x : Refusal) → checkedOf 94 (formed t) .answer ≡ Answer.Refused x
+pub table-refusals : (way : Way) (t : List ℕ) → shaped t ≡ true → (x : Refusal) → checkedOf way (formed way t) .answer ≡ Answer.Refused x
     → ofTable (numberOf (x .fault)) (x .record .0) (x .field) ≡ true
-table-refusals t h = view-refusals (viewOfTable t) (shaped-sized t h)
+table-refusals way t h = view-refusals way (viewOfTable t) (shaped-sized t h)
 
 -- never with 2, 4, 18, 19, 21, 22, 23, 24 or 25, nor with 5 at another field
 pub of-table-never : (n k : ℕ) → All (λ number. ofTable number n k ≡ false) (2 ∷ 4 ∷ 18 ∷ 19 ∷ 21 ∷ 22 ∷ 23 ∷ 24 ∷ 25 ∷ []) × (ofTable 5 n k ≡ eqb n 1 && eqb k 3)

@@ -24,22 +24,24 @@ use Rattle.view.proofs.Tables.{textsIn, entries-sized, rows-of-entries,
 use Rattle.view.proofs.Bridge.{accepted-view}
 use Rattle.view.proofs.Own.{own-entries}
 use Rattle.view.proofs.Answers.{not-granted, demand-granted, then-granted}
+use Rattle.layout.specs.declared.Way.{Way}
+use Rattle.layout.specs.Ways.{recordBytes}
 
 -- ---- as definitions
 
 -- an accepted file's table has the right shape, and the file is formed of it again
-pub file-back : (f : List ℕ) → checkedOf 94 f .answer ≡ Answer.Granted → (shaped (tableOf 94 f) ≡ true) × (formed (tableOf 94 f) ≡ f)
-file-back f e =
-    let p = accepted-view f e in
-    (table-shaped (viewOf 94 f) (p .sized), formed-of-table (viewOf 94 f) (p .sized) ∙ sym (p .form))
+pub file-back : (way : Way) (f : List ℕ) → checkedOf way f .answer ≡ Answer.Granted → (shaped (tableOf way f) ≡ true) × (formed way (tableOf way f) ≡ f)
+file-back way f e =
+    let p = accepted-view way f e in
+    (table-shaped (viewOf way f) (p .sized), formed-of-table way (viewOf way f) (p .sized) ∙ sym (p .form))
 
 -- a table of right shape is the table of the file that is formed of it, whether that file is accepted or not
-pub table-back : (t : List ℕ) → shaped t ≡ true → tableOf 94 (formed t) ≡ t
-table-back t h = table-of-formed t h
+pub table-back : (way : Way) (t : List ℕ) → shaped t ≡ true → tableOf way (formed way t) ≡ t
+table-back way t h = table-of-formed way t h
 
--- that file is 94 bytes for each record
-pub formed-length : (t : List ℕ) → shaped t ≡ true → length (formed t) ≡ 94 * length (recordsOf (viewOfTable t))
-formed-length t h = file-length (viewOfTable t) (shaped-sized t h)
+-- that file has so many bytes for each record
+pub formed-length : (way : Way) (t : List ℕ) → shaped t ≡ true → length (formed way t) ≡ recordBytes way * length (recordsOf (viewOfTable t))
+formed-length way t h = file-length way (viewOfTable t) (shaped-sized t h)
 
 -- rows as long as the table wants them
 batch-rows : (bs : List Batch) → All SizedBatch bs → AllLong batchWide (map batchRow bs)
@@ -68,11 +70,11 @@ view-table-length v s =
     four ∙ rw (files, batches, entries, addenda, length-map (v .batches) batchRow, length-map (entriesOf v) (λ e. e .row)) (omega arith)
 
 -- an accepted file's table is so long as its acceptance tells: "109 + 95 × batches + 93 × entries + 80 × addenda"
-pub table-length : (f : List ℕ) → checkedOf 94 f .answer ≡ Answer.Granted
-    → length (tableOf 94 f) ≡ 109 + 95 * checkedOf 94 f .batches + 93 * checkedOf 94 f .entries + 80 * checkedOf 94 f .addenda
-table-length f e =
-    let told = own-entries f e in
-    view-table-length (viewOf 94 f) (accepted-view f e .sized) ∙ rw (told .batches, told .entries, told .addenda)
+pub table-length : (way : Way) (f : List ℕ) → checkedOf way f .answer ≡ Answer.Granted
+    → length (tableOf way f) ≡ 109 + 95 * checkedOf way f .batches + 93 * checkedOf way f .entries + 80 * checkedOf way f .addenda
+table-length way f e =
+    let told = own-entries way f e in
+    view-table-length (viewOf way f) (accepted-view way f e .sized) ∙ rw (told .batches, told .entries, told .addenda)
 
 -- ---- as outcomes
 
@@ -87,34 +89,34 @@ wrote : (s : Bool) (a : Answer) (result buffer : List ℕ) → s ≡ true → a 
 wrote s a result buffer h g l = rw (h, g, le-leb (length result) (length buffer) l)
 
 -- a table of right shape, whose file is accepted and finds room, is written
-pub write-done : (t file : List ℕ) → shaped t ≡ true → checkedOf 94 (formed t) .answer ≡ Answer.Granted → length (formed t) ≤ length file
-    → writeOf 94 t file ≡ made Answer.Granted (formed t) file
-write-done t file h g l = wrote (shaped t) (checkedOf 94 (formed t) .answer) (formed t) file h g l
+pub write-done : (way : Way) (t file : List ℕ) → shaped t ≡ true → checkedOf way (formed way t) .answer ≡ Answer.Granted → length (formed way t) ≤ length file
+    → writeOf way t file ≡ made Answer.Granted (formed way t) file
+write-done way t file h g l = wrote (shaped t) (checkedOf way (formed way t) .answer) (formed way t) file h g l
 
 -- an accepted file whose table finds room is read
-pub read-done : (f table : List ℕ) → checkedOf 94 f .answer ≡ Answer.Granted → length (tableOf 94 f) ≤ length table
-    → readOf 94 f table ≡ made Answer.Granted (tableOf 94 f) table
-read-done f table g l = wrote true (checkedOf 94 f .answer) (tableOf 94 f) table refl g l
+pub read-done : (way : Way) (f table : List ℕ) → checkedOf way f .answer ≡ Answer.Granted → length (tableOf way f) ≤ length table
+    → readOf way f table ≡ made Answer.Granted (tableOf way f) table
+read-done way f table g l = wrote true (checkedOf way f .answer) (tableOf way f) table refl g l
 
 -- read, then written where there is room: granted, and the file stands in front
-pub read-write : (f table file : List ℕ) → readOf 94 f table .gives .answer ≡ Answer.Granted → length f ≤ length file
-    → writeOf 94 (take (readOf 94 f table .gives .length) (readOf 94 f table .leaves)) file ≡ made Answer.Granted f file
-read-write f table file e l =
-    let a = front (andThen (checkedOf 94 f .answer) (room (tableOf 94 f) table)) (tableOf 94 f) table e in
-    let g = then-granted (checkedOf 94 f .answer) (room (tableOf 94 f) table) (a .0) .0 in
-    let b = file-back f g in
-    ap (λ t. writeOf 94 t file) (a .1)
-    ∙ wrote (shaped (tableOf 94 f)) (checkedOf 94 (formed (tableOf 94 f)) .answer) (formed (tableOf 94 f)) file
-    (b .0) (ap (λ x. checkedOf 94 x .answer) (b .1) ∙ g) (rw (b .1) l)
+pub read-write : (way : Way) (f table file : List ℕ) → readOf way f table .gives .answer ≡ Answer.Granted → length f ≤ length file
+    → writeOf way (take (readOf way f table .gives .length) (readOf way f table .leaves)) file ≡ made Answer.Granted f file
+read-write way f table file e l =
+    let a = front (andThen (checkedOf way f .answer) (room (tableOf way f) table)) (tableOf way f) table e in
+    let g = then-granted (checkedOf way f .answer) (room (tableOf way f) table) (a .0) .0 in
+    let b = file-back way f g in
+    ap (λ t. writeOf way t file) (a .1)
+    ∙ wrote (shaped (tableOf way f)) (checkedOf way (formed way (tableOf way f)) .answer) (formed way (tableOf way f)) file
+    (b .0) (ap (λ x. checkedOf way x .answer) (b .1) ∙ g) (rw (b .1) l)
     ∙ ap (λ x. made Answer.Granted x file) (b .1)
 
 -- written, then read where there is room: granted, and the table stands in front
-pub write-read : (t file table : List ℕ) → writeOf 94 t file .gives .answer ≡ Answer.Granted → length t ≤ length table
-    → readOf 94 (take (writeOf 94 t file .gives .length) (writeOf 94 t file .leaves)) table ≡ made Answer.Granted t table
-write-read t file table e l =
-    let tried = andThen (checkedOf 94 (formed t) .answer) (room (formed t) file) in
-    let a = front (demand (shaped t) (refusal Fault.Shape 0 0) tried) (formed t) file e in
+pub write-read : (way : Way) (t file table : List ℕ) → writeOf way t file .gives .answer ≡ Answer.Granted → length t ≤ length table
+    → readOf way (take (writeOf way t file .gives .length) (writeOf way t file .leaves)) table ≡ made Answer.Granted t table
+write-read way t file table e l =
+    let tried = andThen (checkedOf way (formed way t) .answer) (room (formed way t) file) in
+    let a = front (demand (shaped t) (refusal Fault.Shape 0 0) tried) (formed way t) file e in
     let h = demand-granted (shaped t) _ tried (a .0) in
-    let g = then-granted (checkedOf 94 (formed t) .answer) (room (formed t) file) (h .1) .0 in
-    let b = table-back t (h .0) in
-    ap (λ f. readOf 94 f table) (a .1) ∙ read-done (formed t) table g (rw b l) ∙ ap (λ x. made Answer.Granted x table) b
+    let g = then-granted (checkedOf way (formed way t) .answer) (room (formed way t) file) (h .1) .0 in
+    let b = table-back way t (h .0) in
+    ap (λ f. readOf way f table) (a .1) ∙ read-done way (formed way t) table g (rw b l) ∙ ap (λ x. made Answer.Granted x table) b

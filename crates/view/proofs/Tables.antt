@@ -21,6 +21,7 @@ use Rattle.view.specs.Table.{countWide, fileWide, headWide, batchWide, e
 use Rattle.view.specs.Sized.{All, SizedEntry, SizedBatch, Sized}
 use Rattle.view.proofs.Lists.{nil-of-length, all-append, all-take, all-drop, long-all, all-long, section-cut}
 use Rattle.view.proofs.Reading.{view-of-file}
+use Rattle.layout.specs.declared.Way.{Way}
 
 abbrev pub entriesIn : List Batch → List Entry
 entriesIn bs = foldr (λ b es. b .entries ++ es) [] bs
@@ -361,16 +362,16 @@ pub shaped-exactly : (t : List ℕ) → (shaped t ≡ true) ↔ ((v : View) × S
 shaped-exactly t = (λ h. (viewOfTable t, shaped-sized t h, table-of-view t h), λ p. rw (← p .2) (table-shaped (p .0) (p .1)))
 
 -- a view's table forms the view's file, and the file's table is the view's
-pub formed-of-table : (v : View) → Sized v → formed (tableBytes v) ≡ fileOf v
-formed-of-table v s = ap fileOf (view-of-table v s)
+pub formed-of-table : (way : Way) (v : View) → Sized v → formed way (tableBytes v) ≡ fileOf way v
+formed-of-table way v s = ap (fileOf way) (view-of-table v s)
 
-pub table-of-file : (v : View) → Sized v → tableOf 94 (fileOf v) ≡ tableBytes v
-table-of-file v s = ap tableBytes (view-of-file v s)
+pub table-of-file : (way : Way) (v : View) → Sized v → tableOf way (fileOf way v) ≡ tableBytes v
+table-of-file way v s = ap tableBytes (view-of-file way v s)
 
 -- the file formed of a table says what the table says
-pub view-of-formed : (t : List ℕ) → shaped t ≡ true → viewOf 94 (formed t) ≡ viewOfTable t
-view-of-formed t h = view-of-file (viewOfTable t) (shaped-sized t h)
+pub view-of-formed : (way : Way) (t : List ℕ) → shaped t ≡ true → viewOf way (formed way t) ≡ viewOfTable t
+view-of-formed way t h = view-of-file way (viewOfTable t) (shaped-sized t h)
 
 -- and its pay table is that table
-pub table-of-formed : (t : List ℕ) → shaped t ≡ true → tableOf 94 (formed t) ≡ t
-table-of-formed t h = ap tableBytes (view-of-formed t h) ∙ table-of-view t h
+pub table-of-formed : (way : Way) (t : List ℕ) → shaped t ≡ true → tableOf way (formed way t) ≡ t
+table-of-formed way t h = ap tableBytes (view-of-formed way t h) ∙ table-of-view t h

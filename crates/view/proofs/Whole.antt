@@ -3,7 +3,7 @@
 use Prim.Native.Nat.{ℕ, _+_, _-_, _*_}
 use mathlib.Core.Path.{_≡_, refl}
 use mathlib.Core.Bool.{true}
-use mathlib.Core.List.{List, [], _∷_, _++_}
+use mathlib.Core.List.{List, [], _∷_, _++_, map}
 use lib.IntN.{pos}
 use lib.ListN.{length, take, replicate}
 use lib.Seq.{sets}
@@ -13,10 +13,11 @@ use Rattle.records.specs.Run.{checkedOf, runFrom, fieldsFrom}
 use Rattle.text.specs.Decimal.{every, valueFrom, render}
 use Rattle.text.specs.Same.{sameBytes}
 use Rattle.text.specs.Rows.{rows, joined}
-use Rattle.rules.specs.Kinds.{weighed, unbroken}
-use Rattle.view.specs.View.{sumOver, fillerRecord}
+use Rattle.kinds.specs.Kinds.{weighed, unbroken}
+use Rattle.view.specs.View.{sumOver, fillerRecord, closedBy}
 use Rattle.view.specs.Table.{withEntries, withAddenda, everyRow, shaped, formed, tableOf}
 use Rattle.view.specs.Outcome.{alterOf, spotFrom, amendEntry, amendBatch, alteredTable, addendumOf}
+use Rattle.layout.specs.declared.Way.{Way}
 
 -- samples/whole.ach
 abbrev pub whole : List ℕ
@@ -87,7 +88,7 @@ table =
     32 ∷ 32 ∷ 32 ∷ 32 ∷ 32 ∷ 32 ∷ 32 ∷ 32 ∷ 32 ∷ 32 ∷ 32 ∷ 32 ∷ 32 ∷ 32 ∷ []
 
 -- it is accepted, with its numbers; by code there are two entries of 22 with 12550 cents, and nothing else
-pub whole-accepted : checkedOf 94 whole
+pub whole-accepted : checkedOf Way.Plain whole
     ≡ record {
       answer = Answer.Granted;
       batches = 1;
@@ -105,12 +106,12 @@ pub whole-sizes : (length whole ≡ 940) × (length table ≡ 470)
 whole-sizes = (refl, refl)
 
 -- the one is the other's table, and is formed of it
-pub whole-table : (tableOf 94 whole ≡ table) × (formed table ≡ whole) × (shaped table ≡ true)
+pub whole-table : (tableOf Way.Plain whole ≡ table) × (formed Way.Plain table ≡ whole) × (shaped table ≡ true)
 unfolding every valueFrom rows joined render sumOver withEntries withAddenda everyRow
 whole-table = (refl, refl, refl)
 
 -- one cent more in entry 2: granted, and the file is that of the altered table; the addendum of entry 2 is columns 4-83 of record 5
-pub whole-altered : (alterOf 94 whole 2 2551 .gives .answer ≡ Answer.Granted) × (alterOf 94 whole 2 2551 .gives .difference ≡ pos 1) × (alterOf 94 whole 2 2551 .leaves ≡ formed (alteredTable table 2 2551)) × (addendumOf 94 whole 2 ≡ record { from = 379; size = 80 })
+pub whole-altered : (alterOf Way.Plain whole 2 2551 .gives .answer ≡ Answer.Granted) × (alterOf Way.Plain whole 2 2551 .gives .difference ≡ pos 1) × (alterOf Way.Plain whole 2 2551 .leaves ≡ formed Way.Plain (alteredTable table 2 2551)) × (addendumOf Way.Plain whole 2 ≡ record { from = 379; size = 80 })
 unfolding runFrom fieldsFrom every valueFrom sameBytes rows weighed unbroken joined render sumOver withEntries withAddenda everyRow spotFrom amendEntry amendBatch
 whole-altered = (refl, refl, refl, refl)
 
@@ -122,7 +123,7 @@ damaged n c bytes = sets whole (94 * (n - 1) + (c - 1)) bytes
 
 -- what the paper prints of a file: number, record, field
 abbrev pub printed : List ℕ → Paper
-printed f = paperOf (checkedOf 94 f .answer)
+printed f = paperOf (checkedOf Way.Plain f .answer)
 
 abbrev pub paper : ℕ → ℕ → ℕ → Paper
 paper n r f = record { number = n; record-no = r; field-no = f }
@@ -240,4 +241,77 @@ whole-damages =
       earlier = refl;
       earlier-field = refl;
       lower-number = refl;
+    }
+
+-- ---- the same file with line ends
+
+-- samples/whole-lined.ach
+abbrev pub lined : List ℕ
+lined = joined (map (closedBy Way.Lined) (rows 94 10 whole))
+
+-- accepted, with the same numbers
+pub lined-accepted : checkedOf Way.Lined lined
+    ≡ record {
+      answer = Answer.Granted;
+      batches = 1;
+      entries = 2;
+      addenda = 1;
+      debit = 0;
+      credit = 12550;
+      bycode = 2 ∷ 12550 ∷ replicate 14 0;
+    }
+unfolding runFrom fieldsFrom every valueFrom sameBytes rows weighed unbroken joined
+lined-accepted = refl
+
+-- 960 bytes; the same table, and the one is formed of the other
+pub lined-table : (length lined ≡ 960) × (tableOf Way.Lined lined ≡ table) × (formed Way.Lined table ≡ lined)
+unfolding every valueFrom rows joined render sumOver withEntries withAddenda everyRow
+lined-table = (refl, refl, refl)
+
+-- the addendum of entry 2 is columns 4-83 of record 5, whose bytes begin at 384
+pub lined-addendum : addendumOf Way.Lined lined 2 ≡ record { from = 387; size = 80 }
+unfolding runFrom fieldsFrom every valueFrom sameBytes rows weighed unbroken joined sumOver spotFrom
+lined-addendum = refl
+
+-- what the paper prints of a file with line ends, and these bytes in record n of it, from column c on
+abbrev pub printed-lined : List ℕ → Paper
+printed-lined f = paperOf (checkedOf Way.Lined f .answer)
+
+abbrev pub damaged-lined : ℕ → ℕ → List ℕ → List ℕ
+damaged-lined n c bytes = sets lined (96 * (n - 1) + (c - 1)) bytes
+
+pub record LinedDamages : Type 0 where
+  -- a way is never guessed; the line end of the last record is missing
+  pub unlined : printed-lined whole ≡ paper 1 0 0
+  pub in-first-way : printed lined ≡ paper 1 0 0
+  pub last-open : printed-lined (take 958 lined) ≡ paper 1 0 0
+  -- 26: LF before CR, a blank for CR, another byte for LF, at a header, an entry, an addendum and a filler
+  pub swapped : printed-lined (damaged-lined 1 95 (10 ∷ 13 ∷ [])) ≡ paper 26 1 0
+  pub blank : printed-lined (damaged-lined 3 95 (32 ∷ [])) ≡ paper 26 3 0
+  pub other : printed-lined (damaged-lined 5 96 (13 ∷ [])) ≡ paper 26 5 0
+  pub filler : printed-lined (damaged-lined 10 95 (57 ∷ 57 ∷ [])) ≡ paper 26 10 0
+  -- a field's fault in the same record comes first, one in the next record later; so does the end of the data
+  pub field-first : printed-lined (sets (damaged-lined 3 95 (10 ∷ 10 ∷ [])) (96 * 2 + 29) (65 ∷ [])) ≡ paper 6 3 6
+  pub next-later : printed-lined (sets (damaged-lined 2 95 (10 ∷ 10 ∷ [])) (96 * 2 + 29) (65 ∷ [])) ≡ paper 26 2 0
+  pub end-later : printed-lined (take 192 (damaged-lined 2 95 (10 ∷ 10 ∷ []))) ≡ paper 26 2 0
+  pub ended : printed-lined (take 192 lined) ≡ paper 2 3 0
+  -- behind the filled block 4, whatever the line end
+  pub past : printed-lined (lined ++ replicate 96 57) ≡ paper 4 11 0
+
+pub lined-damages : LinedDamages
+unfolding runFrom fieldsFrom every valueFrom sameBytes rows weighed unbroken joined
+lined-damages =
+    record {
+      unlined = refl;
+      in-first-way = refl;
+      last-open = refl;
+      swapped = refl;
+      blank = refl;
+      other = refl;
+      filler = refl;
+      field-first = refl;
+      next-later = refl;
+      end-later = refl;
+      ended = refl;
+      past = refl;
     }

@@ -8,7 +8,7 @@ use lib.ListN.{length}
 use Rattle.text.specs.Decimal.{pick}
 use Rattle.layout.specs.declared.Row.{Row}
 use Rattle.layout.specs.Fields.{fileHeader, batchHeader, entry, addendum}
-use Rattle.rules.specs.declared.Mark.{Mark}
+use Rattle.kinds.specs.declared.Mark.{Mark}
 use Rattle.rules.specs.declared.Sums.{Sums}
 use Rattle.rules.specs.Field.{fieldOf, entryTrace, batchNumber, totalLimit}
 use Rattle.records.specs.Run.{mostRecords}

@@ -12,9 +12,11 @@ use Rattle.layout.specs.declared.Answer.{Answer}
 use Rattle.layout.specs.declared.Made.{Made}
 use Rattle.layout.specs.declared.Altered.{Altered}
 use Rattle.layout.specs.declared.Row.{Row}
-use Rattle.layout.specs.Fields.{recordColumns, noRow, entry, addendum}
-use Rattle.rules.specs.declared.Code.{Code}
-use Rattle.rules.specs.Codes.{codeOf, carries}
+use Rattle.layout.specs.declared.Way.{Way}
+use Rattle.layout.specs.Fields.{noRow, entry, addendum}
+use Rattle.layout.specs.Ways.{recordBytes}
+use Rattle.kinds.specs.declared.Code.{Code}
+use Rattle.kinds.specs.Codes.{codeOf, carries}
 use Rattle.rules.specs.Field.{totalLimit}
 use Rattle.records.specs.Run.{checkedOf}
 use Rattle.view.specs.View.{Entry, Batch, View, written, entryRecord, entriesOf, sumOver, recordsIn, debitOf, creditOf, amountOf, codeIn, batchRecords, bodyOf, fileOf, viewOf}
@@ -49,15 +51,15 @@ abbrev pub room : List ℕ → List ℕ → Answer
 room result buffer = demand (leb (length result) (length buffer)) (refusal Fault.Room 0 0) Answer.Granted
 
 -- "Reading tries the file's refusals, then 23."
-abbrev pub readOf : ℕ → List ℕ → List ℕ → Outcome Made
-readOf w f table = made (andThen (checkedOf w f .answer) (room (tableOf w f) table)) (tableOf w f) table
+abbrev pub readOf : Way → List ℕ → List ℕ → Outcome Made
+readOf way f table = made (andThen (checkedOf way f .answer) (room (tableOf way f) table)) (tableOf way f) table
 
 -- "Writing tries 24, then the formed file's refusals, then 23."
-abbrev pub writeOf : ℕ → List ℕ → List ℕ → Outcome Made
-writeOf w t file =
+abbrev pub writeOf : Way → List ℕ → List ℕ → Outcome Made
+writeOf way t file =
     made
-    (demand (shaped t) (refusal Fault.Shape 0 0) (andThen (checkedOf w (formed t) .answer) (room (formed t) file)))
-    (formed t) file
+    (demand (shaped t) (refusal Fault.Shape 0 0) (andThen (checkedOf way (formed way t) .answer) (room (formed way t) file)))
+    (formed way t) file
 
 -- entry k, from 1 through the file
 abbrev pub noEntry : Entry
@@ -138,26 +140,26 @@ limits v s (Code.Debit u) old new =
     (demand (within (sumOver debitOf (entriesOf v)) old new) (refusal Fault.Limit (fileControlNumber v) 6) Answer.Granted)
 
 -- "It tries the file's refusals, 25, 14 at the entry's field 6 (also for more than ten digits), 20 .., 20 .."
-abbrev pub alterAnswer : ℕ → List ℕ → ℕ → ℕ → Answer
-alterAnswer w f k amount =
-    andThen (checkedOf w f .answer)
-    (demand (exists (viewOf w f) k) (refusal Fault.NoEntry 0 0)
-    (demand (carries (codeOf (codeIn (entryAt (viewOf w f) k))) amount) (refusal Fault.Amount (entryNumber (spotOf (viewOf w f) k)) 6)
-    (limits (viewOf w f) (spotOf (viewOf w f) k) (codeOf (codeIn (entryAt (viewOf w f) k))) (amountOf (entryAt (viewOf w f) k)) amount)))
+abbrev pub alterAnswer : Way → List ℕ → ℕ → ℕ → Answer
+alterAnswer way f k amount =
+    andThen (checkedOf way f .answer)
+    (demand (exists (viewOf way f) k) (refusal Fault.NoEntry 0 0)
+    (demand (carries (codeOf (codeIn (entryAt (viewOf way f) k))) amount) (refusal Fault.Amount (entryNumber (spotOf (viewOf way f) k)) 6)
+    (limits (viewOf way f) (spotOf (viewOf way f) k) (codeOf (codeIn (entryAt (viewOf way f) k))) (amountOf (entryAt (viewOf way f) k)) amount)))
 
 abbrev pub altered : Answer → ℤ → List ℕ → List ℕ → Outcome Altered
 altered Answer.Granted difference result f = record { gives = record { answer = Answer.Granted; difference = difference }; leaves = result }
 altered (Answer.Refused r) difference result f = record { gives = record { answer = Answer.Refused r; difference = pos 0 }; leaves = f }
 
 -- "Granted, it gives the new amount less the old, in cents"; the file is the one of the view with that amount put in
-abbrev pub alterOf : ℕ → List ℕ → ℕ → ℕ → Outcome Altered
-alterOf w f k amount =
-    altered (alterAnswer w f k amount) (pos amount -ℤ pos (amountOf (entryAt (viewOf w f) k))) (fileOf (amend (viewOf w f) k amount)) f
+abbrev pub alterOf : Way → List ℕ → ℕ → ℕ → Outcome Altered
+alterOf way f k amount =
+    altered (alterAnswer way f k amount) (pos amount -ℤ pos (amountOf (entryAt (viewOf way f) k))) (fileOf way (amend (viewOf way f) k amount)) f
 
 -- "A second question, of the same file and number, tells the refusal: the file's come first, then 25."
-abbrev pub addendumAnswer : ℕ → List ℕ → ℕ → Answer
-addendumAnswer w f k =
-    andThen (checkedOf w f .answer) (demand (exists (viewOf w f) k) (refusal Fault.NoEntry 0 0) Answer.Granted)
+abbrev pub addendumAnswer : Way → List ℕ → ℕ → Answer
+addendumAnswer way f k =
+    andThen (checkedOf way f .answer) (demand (exists (viewOf way f) k) (refusal Fault.NoEntry 0 0) Answer.Granted)
 
 -- "handed back as columns 4-83 of the lent file itself, or as an empty part": where it starts, and how long it is
 pub record Part : Type 0 where
@@ -177,6 +179,6 @@ abbrev pub partIf : Answer → Part → Part
 partIf Answer.Granted p = p
 partIf (Answer.Refused r) p = noPart
 
-abbrev pub addendumOf : ℕ → List ℕ → ℕ → Part
-addendumOf w f k =
-    partIf (addendumAnswer w f k) (addendumPartOf (entryAt (viewOf w f) k) (w * entryNumber (spotOf (viewOf w f) k)))
+abbrev pub addendumOf : Way → List ℕ → ℕ → Part
+addendumOf way f k =
+    partIf (addendumAnswer way f k) (addendumPartOf (entryAt (viewOf way f) k) (recordBytes way * entryNumber (spotOf (viewOf way f) k)))

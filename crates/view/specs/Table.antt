@@ -6,6 +6,7 @@ use lib.Dec.{eqb}
 use lib.ListN.{length, take, drop}
 use Rattle.text.specs.Decimal.{pick, digits, value, render}
 use Rattle.text.specs.Rows.{columns, rows, section}
+use Rattle.layout.specs.declared.Way.{Way}
 use Rattle.records.specs.Order.{takesAddendum}
 use Rattle.view.specs.View.{Entry, Batch, View, entryRecord, entriesOf, sumOver, fileOf, viewOf}
 
@@ -107,9 +108,9 @@ shaped t =
     && eqb (sumOver addendaDue (rowsIn entryWide (entryPart t))) (countOf (addendumPart t))
 
 -- "The formed file fills in the rest; counts, hash and totals are cut at the left to their columns"
-abbrev pub formed : List ℕ → List ℕ
-formed t = fileOf (viewOfTable t)
+abbrev pub formed : Way → List ℕ → List ℕ
+formed way t = fileOf way (viewOfTable t)
 
--- the pay table of a file of records of w bytes
-abbrev pub tableOf : ℕ → List ℕ → List ℕ
-tableOf w f = tableBytes (viewOf w f)
+-- the pay table of a file in this way; "a table holds no line ends"
+abbrev pub tableOf : Way → List ℕ → List ℕ
+tableOf way f = tableBytes (viewOf way f)

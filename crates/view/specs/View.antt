@@ -6,11 +6,14 @@ use mathlib.Core.List.{List, [], _∷_, _++_, map, foldr}
 use lib.Dec.{eqb}
 use lib.ListN.{length, getD, take, drop, replicate}
 use Rattle.text.specs.Decimal.{pick, render}
-use Rattle.text.specs.Rows.{columns, joined, rows}
+use Rattle.text.specs.Rows.{columns, joined}
 use Rattle.layout.specs.declared.Row.{Row}
+use Rattle.layout.specs.declared.Way.{Way}
 use Rattle.layout.specs.Fields.{recordColumns, noRow, part, fileHeader, batchHeader, entry, addendum, batchControl, fileControl}
-use Rattle.rules.specs.Codes.{codeOf, codeRow, debitPart, creditPart}
+use Rattle.layout.specs.Ways.{endOf}
+use Rattle.kinds.specs.Codes.{codeOf, codeRow, debitPart, creditPart}
 use Rattle.rules.specs.Field.{entryCode, entryBank, entryAmount, blocks, hashOf}
+use Rattle.records.specs.Run.{columnsIn}
 
 -- row: columns 2-94 of the record 6. addenda: columns 4-83 of each record 7 behind it (at most one in PPD and CCD)
 pub record Entry : Type 0 where
@@ -131,9 +134,12 @@ fillerRecord = replicate recordColumns 57
 abbrev pub recordsOf : View → List (List ℕ)
 recordsOf v = bodyOf v ++ (fileControlRecord v ∷ replicate (fillersAfter (length (bodyOf v) + 1)) fillerRecord)
 
--- "records of 94 bytes, back to back, no line ends"
-abbrev pub fileOf : View → List ℕ
-fileOf v = joined (recordsOf v)
+-- each record with the line end of the way behind it, "filler included"
+abbrev pub closedBy : Way → List ℕ → List ℕ
+closedBy way r = r ++ endOf way
+
+abbrev pub fileOf : Way → View → List ℕ
+fileOf way v = joined (map (closedBy way) (recordsOf v))
 
 -- Reading: the records from the last to the first, each put to what stands behind it. Any bytes have a view; that of an
 -- accepted file is the one that it was made of.
@@ -171,6 +177,6 @@ gather r g =
 abbrev pub viewOfRecords : List (List ℕ) → View
 viewOfRecords rs = record { row = foldr gather nothing rs .row; batches = foldr gather nothing rs .batches }
 
--- the view of a file of records of w bytes
-abbrev pub viewOf : ℕ → List ℕ → View
-viewOf w f = viewOfRecords (rows w (length f / w) f)
+-- the view of a file in this way
+abbrev pub viewOf : Way → List ℕ → View
+viewOf way f = viewOfRecords (columnsIn way f)

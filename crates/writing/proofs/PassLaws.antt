@@ -3,12 +3,13 @@
 use Prim.Native.Nat.{ℕ, suc, _+_, _*_, _≤_}
 use native.Mathlib.Nat.{zero-add}
 use native.Mathlib.Omega.{arith}
+use native.Mathlib.Numerals.{add-one}
 use mathlib.Core.Path.{_≡_, refl, sym, ap, _∙_, subst}
 use mathlib.Core.Bool.{Bool, true, false, _&&_}
-use mathlib.Core.List.{List, [], _∷_, _++_}
+use mathlib.Core.List.{List, [], _∷_, _++_, map}
 use borrow.Author.Tests.{eqb-true}
-use lib.Dec.{eqb, lit<}
-use lib.ListN.{length, take, drop, replicate, length-append, length-drop, take-append-drop}
+use lib.Dec.{eqb}
+use lib.ListN.{length, take, drop, set, replicate, length-append, length-drop, take-append-drop}
 use lib.Seq.{sets, sets-eq, length-sets, length-take-le}
 use Rattle.text.specs.Decimal.{digits}
 use Rattle.text.specs.Rows.{joined, rows}
@@ -23,10 +24,10 @@ use Rattle.records.specs.declared.State.{State}
 use Rattle.records.specs.declared.Verdict.{Verdict}
 use Rattle.records.specs.Order.{complete}
 use Rattle.records.specs.Tally.{start, noSums, addRecord, tally}
-use Rattle.records.specs.Run.{fieldsFrom, lineOf, stepped, recordOf, runFrom, refused, onward, checkedOf}
+use Rattle.records.specs.Run.{fieldsFrom, lineOf, stepped, bare, recordOf, runFrom, refused, onward, checkedOf}
 use Rattle.records.proofs.Laws.{records-next}
 use Rattle.accept.proofs.Laws.{header-long}
-use Rattle.view.specs.View.{Entry, sumOver, recordsIn, fileRecord, fileControlRecord, fillersAfter, fillerRecord, recordsOf, entriesOf, bodyOf}
+use Rattle.view.specs.View.{Entry, closedBy, sumOver, recordsIn, fileRecord, fileControlRecord, fillersAfter, fillerRecord, recordsOf, entriesOf, bodyOf}
 use Rattle.view.specs.Table.{batchPart, entryPart, addendumPart, countOf, rowsIn, addendaDue, entriesDue, withAddenda, withEntries, viewOfTable, everyRow, shaped, formed}
 use Rattle.view.proofs.Lists.{nil-of-length}
 use Rattle.view.proofs.Tables.{entriesIn, shaped-sized}
@@ -39,6 +40,9 @@ use Rattle.writing.specs.Sections.{sizeBy}
 use Rattle.writing.specs.Forming.{entriesAhead, textsAhead, Inside, formOf, pastOf, firstOf}
 use Rattle.writing.proofs.ShapeLaws.{batch-rows-at, entry-rows-at, addendum-rows-at}
 use Rattle.writing.proofs.WalkLaws.{entriesBy, later, between, behindBatches, todoAt, todo, turn}
+use Rattle.layout.specs.declared.Way.{Way}
+use Rattle.layout.specs.Ways.{endOf, recordBytes}
+use Rattle.view.proofs.Ways.{bareRun}
 
 -- ---- what a right shape gives
 
@@ -146,10 +150,10 @@ records-count t g n e =
     records-length v ∙ ap (λ k. k + fillersAfter k) all
 
 -- checking the formed file is running over its records
-checked-run : (t : List ℕ) → shaped t ≡ true → length (recordsOf (viewOfTable t)) ≤ 1000000 → checkedOf 94 (formed t) ≡ runFrom start (recordsOf (viewOfTable t))
+checked-run : (t : List ℕ) → shaped t ≡ true → length (recordsOf (viewOfTable t)) ≤ 1000000 → checkedOf Way.Plain (formed Way.Plain t) ≡ bareRun start (recordsOf (viewOfTable t))
 checked-run t h m =
     let v = viewOfTable t in
-    checked-joined 94 (recordsOf v) (lit< tt) (records-long v (shaped-sized t h)) (omega (arith, records-length v)) m
+    checked-joined Way.Plain (recordsOf v) (records-long v (shaped-sized t h)) (omega (arith, records-length v)) m
 
 -- ---- one turn
 
@@ -157,7 +161,7 @@ passed-state : (v : Verdict) (next st : State) → stepped v next st .verdict �
 passed-state Verdict.Passed next st e = refl
 passed-state (Verdict.Failed fault k) next st e = let z : _≡_ {A = ℕ} 0 1 = cc e in absurd (omega arith)
 
-pub passed-on : (st : State) (r : List ℕ) → recordOf st r .verdict ≡ Verdict.Passed → recordOf st r .state ≡ tally st (lineOf st r) r
+pub passed-on : (st : State) (r : List ℕ) → recordOf st (bare r) .verdict ≡ Verdict.Passed → recordOf st (bare r) .state ≡ tally st (lineOf st r) r
 passed-on st r e =
     let line = lineOf st r in
     passed-state (fieldsFrom (firstField line) (rowsOf line) (st .sums) (st .header) r) (tally st line r) st e
@@ -168,8 +172,8 @@ pub record Step (t : List ℕ) (c : Cursor) (st : State) (r : List ℕ) (next : 
   pub header : length (next .header) ≡ 94
   pub counted : next .sums .records ≡ st .sums .records + 1
   pub fewer : length (todo t c st) ≡ length (todo t c′ next) + 1
-  pub run : runFrom st (todo t c st) ≡ runFrom next (todo t c′ next)
-  pub bytes : joined (todo t c st) ≡ r ++ joined (todo t c′ next)
+  pub run : bareRun st (todo t c st) ≡ bareRun next (todo t c′ next)
+  pub form : todo t c st ≡ r ∷ todo t c′ next
 
 module _ (t : List ℕ) (c : Cursor) (st : State) (l : length (st .header) ≡ 94) (d : complete (st .place) (st .sums .records) ≡ false) (i : Inside t (st .place) c) where
   -- the record has 94 bytes, and is the first of those to be formed
@@ -179,13 +183,13 @@ module _ (t : List ℕ) (c : Cursor) (st : State) (l : length (st .header) ≡ 9
   pub some-left : 1 ≤ length (todo t c st)
   some-left = let n = ap length (turn t c st l d i .form) in omega arith
 
-  pub form-first : (r : List ℕ) → r ≡ formOf t c st → length r ≤ length (joined (todo t c st))
+  pub form-first : (way : Way) (r : List ℕ) → r ≡ formOf t c st → length r + length (endOf way) ≤ length (joined (map (closedBy way) (todo t c st)))
   unfolding joined
-  form-first r e =
+  form-first way r e =
       let u = turn t c st l d i in
-      omega (arith, ap length e, ap (λ rs. length (joined rs)) (u .form), length-append (formOf t c st) (joined (u .rest)))
+      omega (arith, ap length e, ap (λ rs. length (joined (map (closedBy way) rs))) (u .form), length-append (closedBy way (formOf t c st)) (joined (map (closedBy way) (u .rest))), length-append (formOf t c st) (endOf way))
 
-  step-on : recordOf st (formOf t c st) .verdict ≡ Verdict.Passed
+  step-on : recordOf st (bare (formOf t c st)) .verdict ≡ Verdict.Passed
       → Step t c st (formOf t c st) (tally st (lineOf st (formOf t c st)) (formOf t c st)) (pastOf t c (st .place))
   unfolding runFrom joined
   step-on p =
@@ -200,33 +204,33 @@ module _ (t : List ℕ) (c : Cursor) (st : State) (l : length (st .header) ≡ 9
         counted = records-next (st .sums) line r;
         fewer = let n = ap length form in omega arith;
         run =
-            ap (runFrom st) form
-            ∙ ap (λ v. onward v (st .sums .records + 1) (runFrom (recordOf st r .state) (todo t (pastOf t c (st .place)) (tally st line r)))) p
-            ∙ ap (λ x. runFrom x (todo t (pastOf t c (st .place)) (tally st line r))) (passed-on st r p);
-        bytes = ap joined form;
+            ap (bareRun st) form
+            ∙ ap (λ v. onward v (st .sums .records + 1) (bareRun (recordOf st (bare r) .state) (todo t (pastOf t c (st .place)) (tally st line r)))) p
+            ∙ ap (λ x. bareRun x (todo t (pastOf t c (st .place)) (tally st line r))) (passed-on st r p);
+        form = form;
       }
 
   -- as the code makes them
-  pub step-by : (r : List ℕ) (next : State) (c′ : Cursor) → r ≡ formOf t c st → recordOf st r .verdict ≡ Verdict.Passed
+  pub step-by : (r : List ℕ) (next : State) (c′ : Cursor) → r ≡ formOf t c st → recordOf st (bare r) .verdict ≡ Verdict.Passed
       → next ≡ tally st (lineOf st r) r → c′ ≡ pastOf t c (st .place) → Step t c st r next c′
   step-by r next c′ e p f g =
       let a = subst (λ x. Step t c st x (tally st (lineOf st x) x) (pastOf t c (st .place))) (sym e)
-      (step-on (subst (λ x. recordOf st x .verdict ≡ Verdict.Passed) e p)) in
+      (step-on (subst (λ x. recordOf st (bare x) .verdict ≡ Verdict.Passed) e p)) in
       subst (λ x. Step t c st r next x) (sym g) (subst (λ x. Step t c st r x (pastOf t c (st .place))) (sym f) a)
 
   -- a record that fails is the answer
-  pub run-refused : (r : List ℕ) (fault : Fault) (k : ℕ) → r ≡ formOf t c st → recordOf st r .verdict ≡ Verdict.Failed fault k
-      → runFrom st (todo t c st) ≡ refused fault (st .sums .records + 1) k
+  pub run-refused : (r : List ℕ) (fault : Fault) (k : ℕ) → r ≡ formOf t c st → recordOf st (bare r) .verdict ≡ Verdict.Failed fault k
+      → bareRun st (todo t c st) ≡ refused fault (st .sums .records + 1) k
   unfolding runFrom
   run-refused r fault k e f =
-      ap (runFrom st) (turn t c st l d i .form)
-      ∙ ap (λ v. onward v (st .sums .records + 1) (runFrom (recordOf st (formOf t c st) .state) (turn t c st l d i .rest))) (subst (λ x. recordOf st x .verdict ≡ Verdict.Failed fault k) e f)
+      ap (bareRun st) (turn t c st l d i .form)
+      ∙ ap (λ v. onward v (st .sums .records + 1) (bareRun (recordOf st (bare (formOf t c st)) .state) (turn t c st l d i .rest))) (subst (λ x. recordOf st (bare x) .verdict ≡ Verdict.Failed fault k) e f)
 
   -- where the whole is granted, the record passes
-  pub granted-passes : (r : List ℕ) → r ≡ formOf t c st → runFrom st (todo t c st) .answer ≡ Answer.Granted → recordOf st r .verdict ≡ Verdict.Passed
-  granted-passes r e a = go (recordOf st r .verdict) refl
+  pub granted-passes : (r : List ℕ) → r ≡ formOf t c st → bareRun st (todo t c st) .answer ≡ Answer.Granted → recordOf st (bare r) .verdict ≡ Verdict.Passed
+  granted-passes r e a = go (recordOf st (bare r) .verdict) refl
     where
-      go : (v : Verdict) → recordOf st r .verdict ≡ v → v ≡ Verdict.Passed
+      go : (v : Verdict) → recordOf st (bare r) .verdict ≡ v → v ≡ Verdict.Passed
       go Verdict.Passed f = refl
       go (Verdict.Failed fault k) f = refused-not fault (st .sums .records + 1) k (ap (λ x. x .answer) (sym (run-refused r fault k e f)) ∙ a)
 
@@ -247,9 +251,9 @@ none-left t c st e = go (st .place) e
     go Place.BatchDone d = never d
     go Place.FileDone d = ap (λ n. replicate n fillerRecord) (fillers-none (st .sums .records) d)
 
-pub run-granted : (t : List ℕ) (c : Cursor) (st : State) → complete (st .place) (st .sums .records) ≡ true → runFrom st (todo t c st) .answer ≡ Answer.Granted
+pub run-granted : (t : List ℕ) (c : Cursor) (st : State) → complete (st .place) (st .sums .records) ≡ true → bareRun st (todo t c st) .answer ≡ Answer.Granted
 unfolding runFrom
-run-granted t c st e = ap (λ rs. runFrom st rs .answer) (none-left t c st e) ∙ rw e refl
+run-granted t c st e = ap (λ rs. bareRun st rs .answer) (none-left t c st e) ∙ rw e refl
 
 -- ---- a pass
 
@@ -262,7 +266,7 @@ pub record Walking (t : List ℕ) (c : Cursor) (st : State) : Type 0 where
 pub record Begun (t : List ℕ) (c : Cursor) (st : State) : Type 0 where
   pub walking : Walking t c st
   pub all : todo t c st ≡ recordsOf (viewOfTable t)
-  pub run : runFrom st (todo t c st) ≡ checkedOf 94 (formed t)
+  pub run : bareRun st (todo t c st) ≡ checkedOf Way.Plain (formed Way.Plain t)
 
 pub begun : (t : List ℕ) (c : Cursor) (st : State) → shaped t ≡ true → length (recordsOf (viewOfTable t)) ≤ 1000000 → c ≡ firstOf t → st ≡ start → Begun t c st
 begun t c st h m e f =
@@ -272,7 +276,7 @@ begun t c st h m e f =
     record {
       walking = record { inside = first-inside t g; header = refl; few = omega (arith, ap length all) };
       all = all;
-      run = ap (runFrom start) all ∙ sym (checked-run t h m);
+      run = ap (bareRun start) all ∙ sym (checked-run t h m);
     } in
     subst (λ x. Begun t x st) (sym e) (subst (λ x. Begun t (firstOf t) x) (sym f) first)
 
@@ -298,12 +302,31 @@ left-on {whole} {file₀} {file} {at} {more} part rest n e l s =
       fits = s .fits;
     }
 
+-- the line end, as the code writes it
+pub plain-end : (way : Way) (file : List ℕ) (at : ℕ) → way ≡ Way.Plain → file ≡ sets file at (endOf way)
+plain-end way file at e = rw e refl
+
+pub lined-room : (way : Way) (at n : ℕ) → way ≡ Way.Lined → at + length (endOf way) ≤ n → at + 2 ≤ n
+lined-room way at n e h = subst (λ w. at + length (endOf w) ≤ n) e h
+
+pub lined-end : (way : Way) (file : List ℕ) (at : ℕ) → way ≡ Way.Lined → set (set file at 13) (at + 1) 10 ≡ sets file at (endOf way)
+lined-end way file at e = rw (e, add-one at) refl
+
+-- a record is written, and its line end behind it
+pub left-closed : {whole file₀ file : List ℕ} {at : ℕ} (way : Way) (rs : List (List ℕ)) (r : List ℕ) (rest : List (List ℕ)) → rs ≡ r ∷ rest → length r ≡ 94
+    → Left whole file₀ file at (joined (map (closedBy way) rs)) → Left whole file₀ (sets (sets file at r) (at + 94) (endOf way)) (at + recordBytes way) (joined (map (closedBy way) rest))
+unfolding joined
+left-closed {whole} {file₀} {file} {at} way rs r rest e l s =
+    let both : sets file at (closedBy way r) ≡ sets (sets file at r) (at + 94) (endOf way) = sets-append file at r (endOf way) ∙ ap (λ n. sets (sets file at r) (at + n) (endOf way)) l in
+    subst (λ f. Left whole file₀ f (at + recordBytes way) (joined (map (closedBy way) rest))) both
+    (left-on (closedBy way r) (joined (map (closedBy way) rest)) (recordBytes way) (ap (λ xs. joined (map (closedBy way) xs)) e) (length-append r (endOf way) ∙ ap (λ n. n + length (endOf way)) l) s)
+
 -- the file keeps its length
 pub left-length : {whole file₀ file : List ℕ} {at : ℕ} {more : List ℕ} → Left whole file₀ file at more → length file ≡ length file₀
 left-length {whole} {file₀} {file} {at} {more} s = sym (length-sets file at more) ∙ ap length (s .makes) ∙ length-sets file₀ 0 whole
 
 -- nothing is left
-pub left-end : {whole file₀ file : List ℕ} {at : ℕ} (rs : List (List ℕ)) → rs ≡ [] → Left whole file₀ file at (joined rs) → file ≡ whole ++ drop (length whole) file₀
+pub left-end : {whole file₀ file : List ℕ} {at : ℕ} (way : Way) (rs : List (List ℕ)) → rs ≡ [] → Left whole file₀ file at (joined (map (closedBy way) rs)) → file ≡ whole ++ drop (length whole) file₀
 unfolding joined
-left-end {whole} {file₀} {file} {at} rs e s =
-    ap (λ l. sets file at (joined l)) (sym e) ∙ s .makes ∙ sets-eq whole file₀ 0 (omega (arith, s .fits)) ∙ rw zero-add
+left-end {whole} {file₀} {file} {at} way rs e s =
+    ap (λ l. sets file at (joined (map (closedBy way) l))) (sym e) ∙ s .makes ∙ sets-eq whole file₀ 0 (omega (arith, s .fits)) ∙ rw zero-add

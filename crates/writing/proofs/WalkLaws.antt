@@ -22,7 +22,7 @@ use Rattle.records.specs.declared.State.{State}
 use Rattle.records.specs.declared.Verdict.{Verdict}
 use Rattle.records.specs.Order.{filled, lineAt, takesAddendum, complete}
 use Rattle.records.specs.Tally.{addRecord, addBatch, addEntry, addAddendum, tally}
-use Rattle.records.specs.Run.{fieldsFrom, lineOf, stepped, recordOf}
+use Rattle.records.specs.Run.{fieldsFrom, lineOf, stepped, bare, recordOf}
 use Rattle.view.specs.View.{Entry, Batch, sumOver, batchControlRecord, fillersAfter, fillerRecord}
 use Rattle.view.specs.Table.{addendaDue, entriesDue, withAddenda, withEntries}
 use Rattle.view.proofs.Formed.{file-fields, batch-fields, addendum-fields}
@@ -176,7 +176,7 @@ pub record Turn (t : List ℕ) (c : Cursor) (st : State) (r : List ℕ) (c′ : 
   pub rest : List (List ℕ)
   pub long : length r ≡ 94
   pub form : todo t c st ≡ r ∷ rest
-  pub onward : recordOf st r .verdict ≡ Verdict.Passed → Onward t c′ (tally st (lineOf st r) r) rest
+  pub onward : recordOf st (bare r) .verdict ≡ Verdict.Passed → Onward t c′ (tally st (lineOf st r) r) rest
 
 -- by the line that r is taken for
 taken-for : (t : List ℕ) (c′ : Cursor) (st : State) (r : List ℕ) (rest : List (List ℕ)) (line : Line) → lineOf st r ≡ line
@@ -184,7 +184,7 @@ taken-for : (t : List ℕ) (c′ : Cursor) (st : State) (r : List ℕ) (rest : L
 taken-for t c′ st r rest line e o = subst (λ l. Onward t c′ (tally st l r) rest) (sym e) o
 
 -- a record that may not stand here does not pass
-misplaced : {A : Type 0} (st : State) (r : List ℕ) → lineOf st r ≡ Line.Other → recordOf st r .verdict ≡ Verdict.Passed → A
+misplaced : {A : Type 0} (st : State) (r : List ℕ) → lineOf st r ≡ Line.Other → recordOf st (bare r) .verdict ≡ Verdict.Passed → A
 unfolding fieldsFrom
 misplaced st r e p =
     let f = subst (λ line. stepped (fieldsFrom (firstField line) (rowsOf line) (st .sums) (st .header) r) (tally st line r) st .verdict ≡ Verdict.Passed) e p in

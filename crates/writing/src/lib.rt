@@ -3,6 +3,7 @@
 use layout::Answer;
 use layout::Fault;
 use layout::Made;
+use layout::Way;
 ghost use Prim.Native.Nat.{_≤_};
 ghost use mathlib.Core.Path.{_≡_};
 ghost use mathlib.Core.Bool.{true};
@@ -59,8 +60,8 @@ fn unmade(fault: Fault) -> Made
 
 // Forms the table's file in front of the lent bytes. A refusal leaves them as they are: the shape's comes first, then those of the
 // formed file, then that of the room.
-pub fn write(table: &[u8], file: &mut [u8]) -> Made
-    ensures { λ r. ⌜ (r ≡ writeOf 94 (now (table .entry)) (now (file .entry)) .gives) × (now (file .exit) ≡ writeOf 94 (now (table .entry)) (now (file .entry)) .leaves) ⌝ }
+pub fn write(way: Way, table: &[u8], file: &mut [u8]) -> Made
+    ensures { λ r. ⌜ (r ≡ writeOf way (now (table .entry)) (now (file .entry)) .gives) × (now (file .exit) ≡ writeOf way (now (table .entry)) (now (file .entry)) .leaves) ⌝ }
 {
     if !shape::shaped(table) {
         return unmade(Fault::Shape);
@@ -75,11 +76,11 @@ pub fn write(table: &[u8], file: &mut [u8]) -> Made
             length: 0,
         };
     }
-    let size = 94 * count;
+    let size = layout::record_bytes(way) * count;
     if file.len() < size {
         return unmade(Fault::Room);
     }
-    pass::put_formed(table, file);
+    pass::put_formed(way, table, file);
     Made {
         answer: Answer::Granted,
         length: size as u64,

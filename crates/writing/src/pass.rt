@@ -6,16 +6,20 @@ use layout::Answer;
 use layout::Fault;
 use layout::RecordNo;
 use layout::Refusal;
+use layout::Way;
 use records::Verdict;
 use records::order;
 use records::step;
 use records::tally;
-ghost use Prim.Native.Nat.{_≤_};
+ghost use Prim.Native.Nat.{_+_, _≤_};
 ghost use mathlib.Core.Path.{_≡_};
 ghost use mathlib.Core.Bool.{true};
 ghost use mathlib.Core.List.{_++_};
 ghost use lib.ListN.{length, drop};
+ghost use lib.Seq.{sets};
 ghost use Rattle.layout.specs.declared.Answer.{Answer};
+ghost use Rattle.layout.specs.declared.Way.{Way};
+ghost use Rattle.layout.specs.Ways.{endOf};
 ghost use Rattle.records.specs.Run.{checkedOf};
 ghost use Rattle.view.specs.View.{recordsOf};
 ghost use Rattle.view.specs.Table.{shaped, viewOfTable, formed};
@@ -49,10 +53,10 @@ fn opened(table: &[u8]) -> Cursor
     }
 }
 
-// What the check of the formed file answers. Nothing is written.
+// What the check of the formed file answers, in either way: the line ends of a formed file are right. Nothing is written.
 pub(crate) fn judged(table: &[u8]) -> Answer
     requires { ⌜ (shaped (now table) ≡ true) × (length (recordsOf (viewOfTable (now table))) ≤ 1000000) ⌝ }
-    ensures { λ r. ⌜ r ≡ checkedOf 94 (formed (now (table .entry))) .answer ⌝ }
+    ensures { λ r. ⌜ r ≡ checkedOf Way.Plain (formed Way.Plain (now (table .entry))) .answer ⌝ }
 {
     let mut c = opened(table);
     let mut st = tally::start();
@@ -74,10 +78,24 @@ pub(crate) fn judged(table: &[u8]) -> Answer
     }
 }
 
+// Puts the line end of the way behind a record.
+fn end_line(way: Way, file: &mut [u8], at: usize)
+    requires { ⌜ at + length (endOf way) ≤ length (now file) ⌝ }
+    ensures { λ _. ⌜ now (file .exit) ≡ sets (now (file .entry)) at (endOf way) ⌝ }
+{
+    match way {
+        Way::Plain => {}
+        Way::Lined => {
+            file[at] = 13;
+            file[at + 1] = 10;
+        }
+    }
+}
+
 // Writes the formed file, which is granted, to the front of a file with room for it.
-pub(crate) fn put_formed(table: &[u8], file: &mut [u8])
-    requires { ⌜ (shaped (now table) ≡ true) × (length (recordsOf (viewOfTable (now table))) ≤ 1000000) × (checkedOf 94 (formed (now table)) .answer ≡ Answer.Granted) × (length (formed (now table)) ≤ length (now file)) ⌝ }
-    ensures { λ _. ⌜ now (file .exit) ≡ formed (now (table .entry)) ++ drop (length (formed (now (table .entry)))) (now (file .entry)) ⌝ }
+pub(crate) fn put_formed(way: Way, table: &[u8], file: &mut [u8])
+    requires { ⌜ (shaped (now table) ≡ true) × (length (recordsOf (viewOfTable (now table))) ≤ 1000000) × (checkedOf Way.Plain (formed Way.Plain (now table)) .answer ≡ Answer.Granted) × (length (formed way (now table)) ≤ length (now file)) ⌝ }
+    ensures { λ _. ⌜ now (file .exit) ≡ formed way (now (table .entry)) ++ drop (length (formed way (now (table .entry)))) (now (file .entry)) ⌝ }
 {
     let mut c = opened(table);
     let mut st = tally::start();
@@ -90,9 +108,10 @@ pub(crate) fn put_formed(table: &[u8], file: &mut [u8])
         }
         let rec = walk::form(table, c, st);
         text::copy_into(file, at, &rec);
+        end_line(way, file, at + 94);
         let line = order::line_at(place, sums.records, rec[0]);
         c = walk::advance(table, c, place);
         st = tally::tally(st, line, &rec);
-        at += 94;
+        at += layout::record_bytes(way);
     }
 }

@@ -11,27 +11,27 @@ use Rattle.altering.proofs.addendum.Reads as reads
 use Rattle.altering.proofs.addendum.Lts as lts
 use Rattle.altering.proofs.asked_span.Reads as asked-span-reads
 
--- src/lib.rt:100:9
+-- src/lib.rt:102:9
 asked-span-requires : tie.Need-asked-span-requires
 asked-span-requires c κs = search needs
 
--- src/lib.rt:102:15
+-- src/lib.rt:104:15
 add-end : tie.Need-add-end
-add-end c = record { fits = omega (arith, part-inside ((c .before .before .before .args) .file .now) ((c .before .before .before .args) .entry .0), (c .before .asked-span) .ensures .1, (c .before .asked-span) .ensures .2) }
+add-end c = record { fits = omega (arith, part-inside ((c .before .before .before .args) .way) ((c .before .before .before .args) .file .now) ((c .before .before .before .args) .entry .0), (c .before .asked-span) .ensures .1, (c .before .asked-span) .ensures .2) }
 
--- src/lib.rt:103:5
+-- src/lib.rt:105:5
 sub-result : tie.Need-sub-result
 sub-result c = search needs
 
--- src/lib.rt:103:5
+-- src/lib.rt:105:5
 part-result-start : tie.Need-part-result-start
 part-result-start c = search needs
 
--- src/lib.rt:103:5
+-- src/lib.rt:105:5
 part-result-end : tie.Need-part-result-end
-part-result-end c = omega (arith, part-inside ((c .before .before .before .args) .file .now) ((c .before .before .before .args) .entry .0), (c .before .asked-span) .ensures .1, (c .before .asked-span) .ensures .2)
+part-result-end c = omega (arith, part-inside ((c .before .before .before .args) .way) ((c .before .before .before .args) .file .now) ((c .before .before .before .args) .entry .0), (c .before .asked-span) .ensures .1, (c .before .asked-span) .ensures .2)
 
--- src/lib.rt:97:1
+-- src/lib.rt:99:1
 returns : tie.Need-returns
 returns c = cut-out ((c .before .before .before .before .args) .file .now) ((c .before .before .asked-span) .result .from) ((c .before .before .asked-span) .result .size) ∙ ap₂ (λ n i. take n (drop i ((c .before .before .before .before .args) .file .now))) ((c .before .before .asked-span) .ensures .2) ((c .before .before .asked-span) .ensures .1)
 

@@ -9,17 +9,17 @@ use Rattle.altering.proofs.addendum_answer.Lts as lts
 use Rattle.accept.proofs.check.Reads as check-reads
 use Rattle.altering.proofs.asked.Reads as asked-reads
 
--- src/lib.rt:55:11
+-- src/lib.rt:63:11
 check-requires : tie.Need-check-requires
 check-requires c κs = search needs
 
--- src/lib.rt:55:5
+-- src/lib.rt:63:5
 asked-requires : tie.Need-asked-requires
 asked-requires c κs = search needs
 
--- src/lib.rt:51:1
+-- src/lib.rt:59:1
 returns : tie.Need-returns
-returns c = (c .asked) .ensures ∙ ap (λ a. askedOf a ((c .before .before .before .args) .entry .0)) ((c .before .check) .ensures) ∙ asked-answer ((c .before .before .before .args) .file .now) ((c .before .before .before .args) .entry .0)
+returns c = (c .asked) .ensures ∙ ap (λ a. askedOf a ((c .before .before .before .args) .entry .0)) ((c .before .check) .ensures) ∙ asked-answer ((c .before .before .before .args) .way) ((c .before .before .before .args) .file .now) ((c .before .before .before .args) .entry .0)
 
 pub addendum-answer-spec : {M : Type 1} → statement M
 addendum-answer-spec = tie.close (tie.spec check-requires asked-requires returns)

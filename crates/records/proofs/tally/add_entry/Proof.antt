@@ -7,9 +7,9 @@ use Rattle.records.proofs.tally.add_entry.Tie as tie
 use Rattle.records.proofs.tally.add_entry.Reads as reads
 use Rattle.records.proofs.tally.add_entry.Lts as lts
 use Rattle.records.proofs.tally.entered.Reads as entered-reads
-use Rattle.rules.proofs.codes.code_of.Reads as code-of-reads
-use Rattle.rules.proofs.codes.credit_part.Reads as credit-part-reads
-use Rattle.rules.proofs.codes.debit_part.Reads as debit-part-reads
+use Rattle.kinds.proofs.codes.code_of.Reads as code-of-reads
+use Rattle.kinds.proofs.codes.credit_part.Reads as credit-part-reads
+use Rattle.kinds.proofs.codes.debit_part.Reads as debit-part-reads
 
 -- src/tally.rt:66:9
 code-of-requires : tie.Need-code-of-requires

@@ -8,7 +8,7 @@ use Rattle.records.proofs.tally.count_in_row.Tie as tie
 use Rattle.records.proofs.tally.count_in_row.Reads as reads
 use Rattle.records.proofs.tally.count_in_row.Lts as lts
 use Rattle.records.proofs.tally.add_to_row.Reads as add-to-row-reads
-use Rattle.rules.proofs.codes.code_row.Reads as code-row-reads
+use Rattle.kinds.proofs.codes.code_row.Reads as code-row-reads
 
 -- src/tally.rt:143:35
 enum-told : tie.Need-enum-told

@@ -13,15 +13,15 @@ use Rattle.rules.proofs.field.hash_rule.Reads as hash-rule-reads
 use Rattle.rules.proofs.field.place.Reads as place-reads
 use Rattle.rules.proofs.field.sum_of.Reads as sum-of-reads
 use Rattle.rules.proofs.field.total_rule.Reads as total-rule-reads
-use Rattle.rules.proofs.kinds.all_digits.Reads as all-digits-reads
-use Rattle.rules.proofs.kinds.blank_filled.Reads as blank-filled-reads
-use Rattle.rules.proofs.kinds.date.Reads as date-reads
-use Rattle.rules.proofs.kinds.fixed.Reads as fixed-reads
-use Rattle.rules.proofs.kinds.mandatory_text.Reads as mandatory-text-reads
-use Rattle.rules.proofs.kinds.nine_filled.Reads as nine-filled-reads
-use Rattle.rules.proofs.kinds.optional_text.Reads as optional-text-reads
+use Rattle.kinds.proofs.texts.all_digits.Reads as all-digits-reads
+use Rattle.kinds.proofs.texts.blank_filled.Reads as blank-filled-reads
+use Rattle.kinds.proofs.texts.date.Reads as date-reads
+use Rattle.kinds.proofs.texts.fixed.Reads as fixed-reads
+use Rattle.kinds.proofs.texts.mandatory_text.Reads as mandatory-text-reads
+use Rattle.kinds.proofs.texts.nine_filled.Reads as nine-filled-reads
+use Rattle.kinds.proofs.texts.optional_text.Reads as optional-text-reads
 use Rattle.rules.proofs.near.near.Reads as near-reads
-use Rattle.rules.proofs.own.own.Reads as own-reads
+use Rattle.kinds.proofs.own.own.Reads as own-reads
 use Rattle.text.proofs.wide.Reads as wide-reads
 
 -- src/field.rt:106:23

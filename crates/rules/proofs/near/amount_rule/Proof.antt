@@ -5,8 +5,8 @@ use Rattle.rules.proofs.near.amount_rule.Statement.{statement}
 use Rattle.rules.proofs.near.amount_rule.Tie as tie
 use Rattle.rules.proofs.near.amount_rule.Reads as reads
 use Rattle.rules.proofs.near.amount_rule.Lts as lts
-use Rattle.rules.proofs.codes.carries.Reads as carries-reads
-use Rattle.rules.proofs.codes.code_of.Reads as code-of-reads
+use Rattle.kinds.proofs.codes.carries.Reads as carries-reads
+use Rattle.kinds.proofs.codes.code_of.Reads as code-of-reads
 use Rattle.rules.proofs.near.entry_code.Reads as entry-code-reads
 use Rattle.text.proofs.digits.Reads as digits-reads
 use Rattle.text.proofs.number.Reads as number-reads

@@ -5,7 +5,7 @@ use Rattle.rules.proofs.near.check_digit_rule.Statement.{statement}
 use Rattle.rules.proofs.near.check_digit_rule.Tie as tie
 use Rattle.rules.proofs.near.check_digit_rule.Reads as reads
 use Rattle.rules.proofs.near.check_digit_rule.Lts as lts
-use Rattle.rules.proofs.own.check_digit.Reads as check-digit-reads
+use Rattle.kinds.proofs.own.check_digit.Reads as check-digit-reads
 use Rattle.text.proofs.digits.Reads as digits-reads
 use Rattle.text.proofs.number.Reads as number-reads
 

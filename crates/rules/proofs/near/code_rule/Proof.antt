@@ -5,9 +5,9 @@ use Rattle.rules.proofs.near.code_rule.Statement.{statement}
 use Rattle.rules.proofs.near.code_rule.Tie as tie
 use Rattle.rules.proofs.near.code_rule.Reads as reads
 use Rattle.rules.proofs.near.code_rule.Lts as lts
-use Rattle.rules.proofs.codes.allowed.Reads as allowed-reads
-use Rattle.rules.proofs.codes.code_of.Reads as code-of-reads
-use Rattle.rules.proofs.codes.known.Reads as known-reads
+use Rattle.kinds.proofs.codes.allowed.Reads as allowed-reads
+use Rattle.kinds.proofs.codes.code_of.Reads as code-of-reads
+use Rattle.kinds.proofs.codes.known.Reads as known-reads
 use Rattle.rules.proofs.near.batch_class.Reads as batch-class-reads
 use Rattle.text.proofs.digits.Reads as digits-reads
 use Rattle.text.proofs.number.Reads as number-reads

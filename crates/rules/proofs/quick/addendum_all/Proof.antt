@@ -4,8 +4,8 @@ use Rattle.rules.proofs.quick.addendum_all.Statement.{statement}
 use Rattle.rules.proofs.quick.addendum_all.Tie as tie
 use Rattle.rules.proofs.quick.addendum_all.Reads as reads
 use Rattle.rules.proofs.quick.addendum_all.Lts as lts
-use Rattle.rules.proofs.kinds.fixed.Reads as fixed-reads
-use Rattle.rules.proofs.kinds.optional_text.Reads as optional-text-reads
+use Rattle.kinds.proofs.texts.fixed.Reads as fixed-reads
+use Rattle.kinds.proofs.texts.optional_text.Reads as optional-text-reads
 use Rattle.rules.proofs.near.entry_trace_rule.Reads as entry-trace-rule-reads
 use Rattle.rules.proofs.quick.right.Reads as right-reads
 

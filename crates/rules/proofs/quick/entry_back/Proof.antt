@@ -4,9 +4,9 @@ use Rattle.rules.proofs.quick.entry_back.Statement.{statement}
 use Rattle.rules.proofs.quick.entry_back.Tie as tie
 use Rattle.rules.proofs.quick.entry_back.Reads as reads
 use Rattle.rules.proofs.quick.entry_back.Lts as lts
-use Rattle.rules.proofs.kinds.mandatory_text.Reads as mandatory-text-reads
-use Rattle.rules.proofs.kinds.optional_text.Reads as optional-text-reads
-use Rattle.rules.proofs.own.flag.Reads as flag-reads
+use Rattle.kinds.proofs.texts.mandatory_text.Reads as mandatory-text-reads
+use Rattle.kinds.proofs.texts.optional_text.Reads as optional-text-reads
+use Rattle.kinds.proofs.own.flag.Reads as flag-reads
 use Rattle.rules.proofs.quick.right.Reads as right-reads
 use Rattle.rules.proofs.quick.trace_right.Reads as trace-right-reads
 

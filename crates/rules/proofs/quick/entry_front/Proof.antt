@@ -1,5 +1,5 @@
 use Rattle.rules.specs.Field.{entryCode, entryAmount}
-use Rattle.rules.specs.Codes.{codeOf, carries}
+use Rattle.kinds.specs.Codes.{codeOf, carries}
 use Rattle.text.specs.Decimal.{digits}
 use mathlib.Core.Path.{refl}
 use Rattle.rules.proofs.Laws.{code-right, two-tests}
@@ -10,13 +10,13 @@ use Rattle.rules.proofs.quick.entry_front.Statement.{statement}
 use Rattle.rules.proofs.quick.entry_front.Tie as tie
 use Rattle.rules.proofs.quick.entry_front.Reads as reads
 use Rattle.rules.proofs.quick.entry_front.Lts as lts
-use Rattle.rules.proofs.codes.allowed.Reads as allowed-reads
-use Rattle.rules.proofs.codes.carries.Reads as carries-reads
-use Rattle.rules.proofs.codes.code_of.Reads as code-of-reads
+use Rattle.kinds.proofs.codes.allowed.Reads as allowed-reads
+use Rattle.kinds.proofs.codes.carries.Reads as carries-reads
+use Rattle.kinds.proofs.codes.code_of.Reads as code-of-reads
 use Rattle.rules.proofs.near.batch_class.Reads as batch-class-reads
 use Rattle.rules.proofs.near.check_digit_rule.Reads as check-digit-rule-reads
-use Rattle.rules.proofs.own.account.Reads as account-reads
-use Rattle.rules.proofs.own.bank.Reads as bank-reads
+use Rattle.kinds.proofs.own.account.Reads as account-reads
+use Rattle.kinds.proofs.own.bank.Reads as bank-reads
 use Rattle.rules.proofs.quick.right.Reads as right-reads
 use Rattle.text.proofs.digits.Reads as digits-reads
 
