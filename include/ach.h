@@ -2,10 +2,12 @@
  * Qalarimo ACH: payment files of PPD and CCD entries.
  * Link with libach_c.a; it needs nothing but memcpy.
  *
- * A file is records of 94 bytes, back to back, no line ends. A pay table holds
- * the same payments without what follows from them (counts, hashes, totals,
- * fillers): a section each for the file's header, the batches, the entries and
- * the addenda, each after its count of six digits.
+ * A file is records of 94 columns, in one of two ways: back to back, without
+ * line ends, or with CR LF behind every record, fillers and the last record
+ * included. A pay table holds the same payments without what follows from them
+ * (counts, hashes, totals, fillers): a section each for the file's header, the
+ * batches, the entries and the addenda, each after its count of six digits. A
+ * table holds no line ends; it is the same for both ways of its file.
  *
  * Any bytes of any length may be lent, and every function does its own
  * checking. No function keeps anything between calls or allocates memory, so
@@ -22,11 +24,23 @@ extern "C" {
 #endif
 
 /*
+ * The way of a file, the first parameter of every function. The caller tells
+ * it, and nothing guesses it. 0 is the first way; every other number is the
+ * second. Columns, fields and record numbers are the same in both.
+ */
+#define ACH_PLAIN 0 /* records of 94 bytes, back to back */
+#define ACH_LINED 1 /* records of 96 bytes, the last two CR LF */
+
+/* The length of the longest file, a million records, in each way. */
+#define ACH_LONGEST_PLAIN 94000000
+#define ACH_LONGEST_LINED 96000000
+
+/*
  * Every function answers 0 if it grants. If it refuses, it answers
  *
  *     number + 256 * field + 65536 * record
  *
- * where number (1 to 25) says why, and record and field, counted from 1, say
+ * where number (1 to 26) says why, and record and field, counted from 1, say
  * where; they are 0 where there is no place to name. A refusal leaves every
  * byte and every number that was lent as it was. What is lent to one call
  * must not overlap.
@@ -50,10 +64,13 @@ extern "C" {
  *  10 no such day or time            23 room for the result too short
  *  11 value not known                24 table of the wrong shape
  *  12 check digit                    25 no such entry
- *  13 bank begins with 4 to 9
+ *  13 bank begins with 4 to 9        26 record not followed by CR LF
  *
  * The first refusal in the file is given: by record, then by field, then by
- * number.
+ * number. 1 is a length of 0, no multiple of the record's 94 or 96 bytes, or
+ * over a million records; so is the lack of the last CR LF. 26 is given in the
+ * second way alone, with field 0: after all fields of its record, and before
+ * everything of the next one. The record that 4 names is not looked at.
  */
 
 /* Where the numbers of an acceptance stand. */
@@ -73,29 +90,30 @@ extern "C" {
  * `file` may be null if n is 0, which is refused (1). Otherwise it points to n
  * bytes, and `acceptance` to ACH_ACCEPTANCE_LENGTH numbers outside of them.
  */
-uint64_t ach_check(const uint8_t *file, size_t n,
+uint64_t ach_check(uint64_t way, const uint8_t *file, size_t n,
                    uint64_t acceptance[ACH_ACCEPTANCE_LENGTH]);
 
 /*
  * Reads the pay table of an accepted file into the `room` bytes at `table`.
  * Granted, the table stands in front, `length` is how many bytes it has, and
  * the bytes behind it stay. The table has 109 + 95 * batches + 93 * entries +
- * 80 * addenda bytes, always fewer than the file; less room is refused (23),
- * after the file's refusals. `table` may be null if room is 0.
+ * 80 * addenda bytes in both ways, always fewer than the file; less room is
+ * refused (23), after the file's refusals. `table` may be null if room is 0.
  */
-uint64_t ach_read(const uint8_t *file, size_t n, uint8_t *table, size_t room,
-                  uint64_t *length);
+uint64_t ach_read(uint64_t way, const uint8_t *file, size_t n, uint8_t *table,
+                  size_t room, uint64_t *length);
 
 /*
- * Writes the file of a pay table into the `room` bytes at `file`. A table of
- * the wrong shape is refused (24), then come the refusals of the file that
- * would be formed, with its records and fields, then 23. Granted, the file
- * stands in front, `length` is how many bytes it has, and the bytes behind it
- * stay. Room of 2 * n + 816 bytes is always enough, and so are 94,000,000.
- * `file` may be null if room is 0.
+ * Writes the file of a pay table, in the way asked for, into the `room` bytes
+ * at `file`. A table of the wrong shape is refused (24), then come the refusals
+ * of the file that would be formed, with its records and fields, then 23.
+ * Granted, the file stands in front, `length` is how many bytes it has, and the
+ * bytes behind it stay. Line ends count as bytes: 2 * n + 816 are always enough
+ * room in the first way and 2 * n + 838 in the second, and so is the length of
+ * the longest file. `file` may be null if room is 0.
  */
-uint64_t ach_write(const uint8_t *table, size_t n, uint8_t *file, size_t room,
-                   uint64_t *length);
+uint64_t ach_write(uint64_t way, const uint8_t *table, size_t n, uint8_t *file,
+                   size_t room, uint64_t *length);
 
 /*
  * Puts a new amount, in cents, into entry number `entry` (from 1 through the
@@ -105,16 +123,16 @@ uint64_t ach_write(const uint8_t *table, size_t n, uint8_t *file, size_t room,
  * the code does not carry (at the entry's record), 20 a total that would pass
  * 999,999,999,999 cents (at the batch's control, then at the file's).
  */
-uint64_t ach_alter(uint8_t *file, size_t n, uint64_t entry, uint64_t amount,
-                   int64_t *difference);
+uint64_t ach_alter(uint64_t way, uint8_t *file, size_t n, uint64_t entry,
+                   uint64_t amount, int64_t *difference);
 
 /*
  * Tells where the addendum of an entry stands: `length` (80) bytes from
- * `start` on in the file, counted from 0, or 0 and 0 where the entry has none.
- * Refused: the file's own, then 25.
+ * `start` on in the file, counted from 0 and with the line ends of its way, or
+ * 0 and 0 where the entry has none. Refused: the file's own, then 25.
  */
-uint64_t ach_addendum(const uint8_t *file, size_t n, uint64_t entry,
-                      uint64_t *start, uint64_t *length);
+uint64_t ach_addendum(uint64_t way, const uint8_t *file, size_t n,
+                      uint64_t entry, uint64_t *start, uint64_t *length);
 
 #ifdef __cplusplus
 }

@@ -1,19 +1,19 @@
 /*
- * Checks a file, alters one amount in it, and prints what the library answers.
+ * Checks a file without line ends and one with CR LF behind every record,
+ * alters one amount in each, and prints what the library answers.
  *
  *     cc -Iinclude host/c/example.c target/staticlib/libach_c.a -o example
- *     ./example samples/whole.ach
+ *     ./example samples/whole.ach samples/whole-lined.ach
  */
 #include "ach.h"
 
 #include <inttypes.h>
 #include <stdio.h>
+#include <stdlib.h>
 #include <string.h>
 
-#define MOST_BYTES 94000000
-
-/* One byte more than a file may have, so that a longer one is noticed. */
-static uint8_t file[MOST_BYTES + 1];
+/* Enough for both ways, and one byte more, so that a longer file is noticed. */
+static uint8_t file[ACH_LONGEST_LINED + 1];
 
 static void print_refusal(const char *what, uint64_t answer)
 {
@@ -21,10 +21,10 @@ static void print_refusal(const char *what, uint64_t answer)
            ACH_NUMBER(answer), ACH_RECORD(answer), ACH_FIELD(answer));
 }
 
-static void print_check(size_t n)
+static void print_check(uint64_t way, size_t n)
 {
     uint64_t held[ACH_ACCEPTANCE_LENGTH];
-    uint64_t answer = ach_check(file, n, held);
+    uint64_t answer = ach_check(way, file, n, held);
     if (answer != 0) {
         print_refusal("check", answer);
         return;
@@ -35,10 +35,11 @@ static void print_check(size_t n)
            held[ACH_DEBIT], held[ACH_CREDIT]);
 }
 
-static void print_alteration(size_t n, uint64_t entry, uint64_t amount)
+static void print_alteration(uint64_t way, size_t n, uint64_t entry,
+                             uint64_t amount)
 {
     int64_t difference;
-    uint64_t answer = ach_alter(file, n, entry, amount, &difference);
+    uint64_t answer = ach_alter(way, file, n, entry, amount, &difference);
     if (answer != 0) {
         print_refusal("alter", answer);
         return;
@@ -47,10 +48,10 @@ static void print_alteration(size_t n, uint64_t entry, uint64_t amount)
            "\n", entry, amount, difference);
 }
 
-static void print_addendum(size_t n, uint64_t entry)
+static void print_addendum(uint64_t way, size_t n, uint64_t entry)
 {
     uint64_t start, length;
-    uint64_t answer = ach_addendum(file, n, entry, &start, &length);
+    uint64_t answer = ach_addendum(way, file, n, entry, &start, &length);
     if (answer != 0) {
         print_refusal("addendum", answer);
         return;
@@ -59,13 +60,15 @@ static void print_addendum(size_t n, uint64_t entry)
 }
 
 /* What is read and written again is the file it was; the result's length. */
-static void print_round_trip(size_t n)
+static void print_round_trip(uint64_t way, size_t n)
 {
-    static uint8_t table[MOST_BYTES], again[MOST_BYTES];
+    static uint8_t table[ACH_LONGEST_LINED], again[ACH_LONGEST_LINED];
     uint64_t table_length, length;
-    uint64_t answer = ach_read(file, n, table, sizeof table, &table_length);
+    uint64_t answer =
+        ach_read(way, file, n, table, sizeof table, &table_length);
     if (answer == 0)
-        answer = ach_write(table, table_length, again, sizeof again, &length);
+        answer = ach_write(way, table, table_length, again, sizeof again,
+                           &length);
     if (answer != 0) {
         print_refusal("round trip", answer);
         return;
@@ -75,27 +78,48 @@ static void print_round_trip(size_t n)
                                                       : "another file");
 }
 
-int main(int count, char **arguments)
+/* What is asked of both files. */
+static void print_all(uint64_t way, size_t n)
 {
-    FILE *stream = count == 2 ? fopen(arguments[1], "rb") : NULL;
-    if (stream == NULL) {
-        fprintf(stderr, "usage: example FILE\n");
-        return 2;
-    }
-    size_t n = fread(file, 1, sizeof file, stream);
-    if (ferror(stream)) {
-        perror(arguments[1]);
-        return 2;
+    print_check(way, n);
+    print_alteration(way, n, 1, 200000);
+    print_check(way, n);
+    print_alteration(way, n, 1, 0);
+    print_alteration(way, n, 3, 100);
+    print_addendum(way, n, 2);
+    print_round_trip(way, n);
+    if (n > 0)
+        print_check(way, n - 1);
+}
+
+/* The number of bytes that were read into `file`. */
+static size_t load(const char *name)
+{
+    FILE *stream = fopen(name, "rb");
+    size_t n = stream == NULL ? 0 : fread(file, 1, sizeof file, stream);
+    if (stream == NULL || ferror(stream)) {
+        perror(name);
+        exit(2);
     }
     fclose(stream);
+    return n;
+}
 
-    print_check(n);
-    print_alteration(n, 1, 200000);
-    print_check(n);
-    print_alteration(n, 1, 0);
-    print_alteration(n, 3, 100);
-    print_addendum(n, 2);
-    print_round_trip(n);
-    print_check(n - 1);
+int main(int count, char **arguments)
+{
+    if (count != 3) {
+        fprintf(stderr, "usage: example FILE LINED-FILE\n");
+        return 2;
+    }
+    printf("without line ends\n");
+    print_all(ACH_PLAIN, load(arguments[1]));
+
+    size_t n = load(arguments[2]);
+    printf("with line ends\n");
+    print_all(ACH_LINED, n);
+    if (n > 95) {
+        file[94] = ' ';
+        print_check(ACH_LINED, n);
+    }
     return 0;
 }

@@ -1,7 +1,8 @@
 //! The C boundary as it is, for the safe functions of this crate and for tests of the boundary.
 //!
 //! Every function answers 0 if it grants, else number + 256 * field + 65536 * record. A refusal
-//! leaves all lent memory untouched.
+//! leaves all lent memory untouched. The way of the file is 0 for records back to back; any other
+//! number means CR LF behind every record.
 //!
 //! # Safety
 //! A pointer is to as many bytes as the length behind it says, or to as many numbers as the
@@ -10,10 +11,11 @@
 extern "C" {
     /// Checks the `n` bytes at `file`. Granted, it fills 21 numbers: batches, entries, addenda,
     /// debit and credit cents, then count and cents for each of the eight codes.
-    pub fn ach_check(file: *const u8, n: usize, acceptance: *mut u64) -> u64;
+    pub fn ach_check(way: u64, file: *const u8, n: usize, acceptance: *mut u64) -> u64;
 
     /// Writes the pay table of a file to `table`, and its length to `length`.
     pub fn ach_read(
+        way: u64,
         file: *const u8,
         n: usize,
         table: *mut u8,
@@ -23,6 +25,7 @@ extern "C" {
 
     /// Writes the file of a pay table to `file`, and its length to `length`.
     pub fn ach_write(
+        way: u64,
         table: *const u8,
         n: usize,
         file: *mut u8,
@@ -31,11 +34,19 @@ extern "C" {
     ) -> u64;
 
     /// Gives an entry a new amount; the new less the old goes to `difference`.
-    pub fn ach_alter(file: *mut u8, n: usize, entry: u64, amount: u64, difference: *mut i64)
-        -> u64;
+    pub fn ach_alter(
+        way: u64,
+        file: *mut u8,
+        n: usize,
+        entry: u64,
+        amount: u64,
+        difference: *mut i64,
+    ) -> u64;
 
-    /// Tells where the text of an entry's addendum starts in the file, and its length.
+    /// Tells where the text of an entry's addendum starts in the file, counted in the bytes of its
+    /// way, and its length.
     pub fn ach_addendum(
+        way: u64,
         file: *const u8,
         n: usize,
         entry: u64,

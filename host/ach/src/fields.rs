@@ -9,8 +9,9 @@
 //! assert_eq!((amount.name, amount.first, amount.last), ("Amount", 30, 39));
 //! ```
 
-/// How many columns a record has.
-pub const RECORD: usize = 94;
+/// How many columns a record has. [`Way::record_length`](crate::Way::record_length) tells how many
+/// bytes it takes in a file.
+pub const COLUMNS: usize = 94;
 
 /// A rule that looks at its own field alone.
 #[derive(Clone, Copy, Debug, PartialEq, Eq)]
@@ -140,7 +141,7 @@ impl RecordType {
 }
 
 impl Field {
-    /// The field's part of a record.
+    /// The field's part of a record, with its line end or without.
     ///
     /// ```
     /// let file = include_bytes!("../../../samples/whole.ach");

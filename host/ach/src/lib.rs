@@ -4,15 +4,18 @@
 //! slices into pointers and numbers into answers, and nothing else. Every function takes any
 //! bytes, does its own checking, and leaves what it was lent untouched when it refuses.
 //!
-//! A *file* is records of 94 bytes, back to back, without line ends. A *pay table* holds the same
-//! payments without what can be computed from them: counts, hashes, totals and fillers.
+//! A *file* is records of 94 columns in one of two [ways](Way): back to back, or with CR LF behind
+//! every record. A *pay table* holds the same payments without what can be computed from them:
+//! counts, hashes, totals, fillers and line ends.
 //!
 //! ```
+//! use ach::Way;
+//!
 //! let table = include_bytes!("../../../samples/whole.table");
-//! let mut file = ach::file_of(table)?;
-//! assert_eq!(ach::check(&file)?.credit, 12_550);
-//! assert_eq!(ach::alter(&mut file, 1, 20_000)?, 10_000);
-//! assert_eq!(ach::check(&file)?.credit, 22_550);
+//! let mut file = ach::file_of(Way::Plain, table)?;
+//! assert_eq!(ach::check(Way::Plain, &file)?.credit, 12_550);
+//! assert_eq!(ach::alter(Way::Plain, &mut file, 1, 20_000)?, 10_000);
+//! assert_eq!(ach::check(Way::Plain, &file)?.credit, 22_550);
 //! # Ok::<(), ach::Refusal>(())
 //! ```
 
@@ -21,8 +24,10 @@
 pub mod boundary;
 pub mod fields;
 mod refusal;
+mod way;
 
 pub use refusal::{reason, Refusal};
+pub use way::Way;
 
 /// How many numbers an acceptance has at the boundary.
 pub const ACCEPTANCE_LENGTH: usize = 21;
@@ -30,11 +35,11 @@ pub const ACCEPTANCE_LENGTH: usize = 21;
 /// The transaction codes that are known, in the order of [`Acceptance::by_code`].
 pub const CODES: [u8; 8] = [22, 23, 27, 28, 32, 33, 37, 38];
 
-/// The length of the longest file: a million records.
-pub const LONGEST_FILE: usize = 94_000_000;
+/// A pay table's four counts and its header row.
+const EMPTY_TABLE: usize = 109;
 
 /// No pay table of right shape is longer: 999,999 rows, in each of three sections, and the header.
-pub const LONGEST_TABLE: usize = 109 + (95 + 93 + 80) * 999_999;
+pub const LONGEST_TABLE: usize = EMPTY_TABLE + (95 + 93 + 80) * 999_999;
 
 /// What an accepted file holds.
 #[derive(Clone, Copy, Debug, PartialEq, Eq)]
@@ -60,22 +65,29 @@ fn granted(answer: u64) -> Result<(), Refusal> {
     }
 }
 
-/// Tells what an ACH file holds, or the first reason why it is none.
+/// Tells what an ACH file of this way holds, or the first reason why it is none.
 ///
 /// ```
+/// use ach::Way;
+///
 /// let file = include_bytes!("../../../samples/whole.ach");
-/// let held = ach::check(file)?;
+/// let held = ach::check(Way::Plain, file)?;
 /// assert_eq!((held.batches, held.entries, held.addenda), (1, 2, 1));
 /// assert_eq!((held.debit, held.credit), (0, 12_550));
 ///
-/// let refusal = ach::check(&file[..94]).unwrap_err();
+/// let lined = include_bytes!("../../../samples/whole-lined.ach");
+/// assert_eq!(ach::check(Way::Lined, lined)?, held);
+///
+/// let refusal = ach::check(Way::Plain, &file[..94]).unwrap_err();
 /// assert_eq!((refusal.number, refusal.record, refusal.field), (2, 2, 0));
 /// # Ok::<(), ach::Refusal>(())
 /// ```
-pub fn check(file: &[u8]) -> Result<Acceptance, Refusal> {
+pub fn check(way: Way, file: &[u8]) -> Result<Acceptance, Refusal> {
     let mut numbers = [0; ACCEPTANCE_LENGTH];
     // SAFETY: the pointers come from a slice and an array of the lengths that the boundary names.
-    let answer = unsafe { boundary::ach_check(file.as_ptr(), file.len(), numbers.as_mut_ptr()) };
+    let answer = unsafe {
+        boundary::ach_check(way.number(), file.as_ptr(), file.len(), numbers.as_mut_ptr())
+    };
     granted(answer)?;
     let [batches, entries, addenda, debit, credit, by_code @ ..] = numbers;
     Ok(Acceptance { batches, entries, addenda, debit, credit, by_code })
@@ -85,9 +97,11 @@ pub fn check(file: &[u8]) -> Result<Acceptance, Refusal> {
 /// with the sums in cents, or `NO number record field`.
 ///
 /// ```
+/// use ach::Way;
+///
 /// let file = include_bytes!("../../../samples/whole.ach");
-/// assert_eq!(ach::line(&ach::check(file)), "OK 1 2 1 0 12550");
-/// assert_eq!(ach::line(&ach::check(b"")), "NO 1 0 0");
+/// assert_eq!(ach::line(&ach::check(Way::Plain, file)), "OK 1 2 1 0 12550");
+/// assert_eq!(ach::line(&ach::check(Way::Plain, b"")), "NO 1 0 0");
 /// ```
 pub fn line(answer: &Result<Acceptance, Refusal>) -> String {
     match answer {
@@ -101,39 +115,47 @@ pub fn line(answer: &Result<Acceptance, Refusal>) -> String {
 /// Writes the pay table of a file to the front of the room, and tells its length.
 ///
 /// ```
+/// use ach::Way;
+///
 /// let file = include_bytes!("../../../samples/whole.ach");
 /// let mut room = [b'?'; 500];
-/// assert_eq!(ach::read(file, &mut room)?, 470);
+/// assert_eq!(ach::read(Way::Plain, file, &mut room)?, 470);
 /// assert_eq!(&room[..470], include_bytes!("../../../samples/whole.table"));
 /// assert_eq!(room[470..], [b'?'; 30]);
-/// assert_eq!(ach::read(file, &mut room[..469]).unwrap_err().number, 23);
+/// assert_eq!(ach::read(Way::Plain, file, &mut room[..469]).unwrap_err().number, 23);
 /// # Ok::<(), ach::Refusal>(())
 /// ```
-pub fn read(file: &[u8], room: &mut [u8]) -> Result<usize, Refusal> {
+pub fn read(way: Way, file: &[u8], room: &mut [u8]) -> Result<usize, Refusal> {
     let mut length = 0;
+    let (space, size) = (room.as_mut_ptr(), room.len());
     // SAFETY: as for `check`; the room is lent for writing and does not overlap the file.
     let answer = unsafe {
-        boundary::ach_read(file.as_ptr(), file.len(), room.as_mut_ptr(), room.len(), &mut length)
+        boundary::ach_read(way.number(), file.as_ptr(), file.len(), space, size, &mut length)
     };
     granted(answer)?;
     Ok(length as usize)
 }
 
-/// Writes the file that a pay table stands for to the front of the room, and tells its length.
+/// Writes the file of this way that a pay table stands for to the front of the room, and tells its
+/// length. [`Way::room_for_file`] says how much room suffices.
 ///
 /// ```
+/// use ach::Way;
+///
 /// let table = include_bytes!("../../../samples/whole.table");
 /// let mut room = [0; 940];
-/// assert_eq!(ach::write(table, &mut room)?, 940);
+/// assert_eq!(ach::write(Way::Plain, table, &mut room)?, 940);
 /// assert_eq!(&room, include_bytes!("../../../samples/whole.ach"));
-/// assert_eq!(ach::write(b"no table", &mut room).unwrap_err().number, 24);
+/// assert_eq!(ach::write(Way::Lined, table, &mut room).unwrap_err().number, 23);
+/// assert_eq!(ach::write(Way::Plain, b"no table", &mut room).unwrap_err().number, 24);
 /// # Ok::<(), ach::Refusal>(())
 /// ```
-pub fn write(table: &[u8], room: &mut [u8]) -> Result<usize, Refusal> {
+pub fn write(way: Way, table: &[u8], room: &mut [u8]) -> Result<usize, Refusal> {
     let mut length = 0;
+    let (space, size) = (room.as_mut_ptr(), room.len());
     // SAFETY: as for `read`.
     let answer = unsafe {
-        boundary::ach_write(table.as_ptr(), table.len(), room.as_mut_ptr(), room.len(), &mut length)
+        boundary::ach_write(way.number(), table.as_ptr(), table.len(), space, size, &mut length)
     };
     granted(answer)?;
     Ok(length as usize)
@@ -142,26 +164,34 @@ pub fn write(table: &[u8], room: &mut [u8]) -> Result<usize, Refusal> {
 /// The pay table of a file, in memory of its own.
 ///
 /// ```
-/// let file = include_bytes!("../../../samples/whole.ach");
-/// assert_eq!(ach::table_of(file)?, include_bytes!("../../../samples/whole.table"));
+/// use ach::Way;
+///
+/// let (file, lined) = (
+///     include_bytes!("../../../samples/whole.ach"),
+///     include_bytes!("../../../samples/whole-lined.ach"),
+/// );
+/// let table = include_bytes!("../../../samples/whole.table");
+/// assert_eq!(ach::table_of(Way::Plain, file)?, table);
+/// assert_eq!(ach::table_of(Way::Lined, lined)?, table);
 /// # Ok::<(), ach::Refusal>(())
 /// ```
-pub fn table_of(file: &[u8]) -> Result<Vec<u8>, Refusal> {
+pub fn table_of(way: Way, file: &[u8]) -> Result<Vec<u8>, Refusal> {
     // Every row of a table is shorter than the records that stand for it.
-    in_room_of(file.len(), |room| read(file, room))
+    in_room_of(file.len(), |room| read(way, file, room))
 }
 
-/// The file that a pay table stands for, in memory of its own.
+/// The file of this way that a pay table stands for, in memory of its own.
 ///
 /// ```
+/// use ach::Way;
+///
 /// let table = include_bytes!("../../../samples/whole.table");
-/// assert_eq!(ach::file_of(table)?, include_bytes!("../../../samples/whole.ach"));
+/// assert_eq!(ach::file_of(Way::Plain, table)?, include_bytes!("../../../samples/whole.ach"));
+/// assert_eq!(ach::file_of(Way::Lined, table)?, include_bytes!("../../../samples/whole-lined.ach"));
 /// # Ok::<(), ach::Refusal>(())
 /// ```
-pub fn file_of(table: &[u8]) -> Result<Vec<u8>, Refusal> {
-    // A batch of 95 bytes becomes two records; two more records and up to nine fillers come along.
-    let enough = table.len().saturating_mul(2).saturating_add(816);
-    in_room_of(enough.min(LONGEST_FILE), |room| write(table, room))
+pub fn file_of(way: Way, table: &[u8]) -> Result<Vec<u8>, Refusal> {
+    in_room_of(way.room_for_file(table.len()), |room| write(way, table, room))
 }
 
 fn in_room_of(
@@ -178,19 +208,21 @@ fn in_room_of(
 /// new amount less the old.
 ///
 /// ```
+/// use ach::Way;
+///
 /// let mut file = *include_bytes!("../../../samples/whole.ach");
-/// assert_eq!(ach::alter(&mut file, 2, 2_500)?, -50);
-/// let refusal = ach::alter(&mut file, 2, 0).unwrap_err();
+/// assert_eq!(ach::alter(Way::Plain, &mut file, 2, 2_500)?, -50);
+/// let refusal = ach::alter(Way::Plain, &mut file, 2, 0).unwrap_err();
 /// assert_eq!((refusal.number, refusal.record, refusal.field), (14, 4, 6));
-/// assert_eq!(ach::check(&file)?.credit, 12_500);
+/// assert_eq!(ach::check(Way::Plain, &file)?.credit, 12_500);
 /// # Ok::<(), ach::Refusal>(())
 /// ```
-pub fn alter(file: &mut [u8], entry: u64, amount: u64) -> Result<i64, Refusal> {
+pub fn alter(way: Way, file: &mut [u8], entry: u64, amount: u64) -> Result<i64, Refusal> {
     let mut difference = 0;
+    let (space, size) = (file.as_mut_ptr(), file.len());
     // SAFETY: as for `check`; the file is lent for writing.
-    let answer = unsafe {
-        boundary::ach_alter(file.as_mut_ptr(), file.len(), entry, amount, &mut difference)
-    };
+    let answer =
+        unsafe { boundary::ach_alter(way.number(), space, size, entry, amount, &mut difference) };
     granted(answer)?;
     Ok(difference)
 }
@@ -198,17 +230,21 @@ pub fn alter(file: &mut [u8], entry: u64, amount: u64) -> Result<i64, Refusal> {
 /// The 80 bytes of text in the addendum of an entry, counted from 1; nothing if it has none.
 ///
 /// ```
-/// let file = include_bytes!("../../../samples/whole.ach");
-/// assert_eq!(ach::addendum(file, 1)?, b"");
-/// assert!(ach::addendum(file, 2)?.starts_with(b"REIMBURSEMENT OF TRAVEL, OCTOBER "));
-/// assert_eq!(ach::addendum(file, 3).unwrap_err().number, 25);
+/// use ach::Way;
+///
+/// let file = include_bytes!("../../../samples/whole-lined.ach");
+/// assert_eq!(ach::addendum(Way::Lined, file, 1)?, b"");
+/// let text = ach::addendum(Way::Lined, file, 2)?;
+/// assert!(text.len() == 80 && text.starts_with(b"REIMBURSEMENT OF TRAVEL, OCTOBER "));
+/// assert_eq!(ach::addendum(Way::Lined, file, 3).unwrap_err().number, 25);
 /// # Ok::<(), ach::Refusal>(())
 /// ```
-pub fn addendum(file: &[u8], entry: u64) -> Result<&[u8], Refusal> {
+pub fn addendum(way: Way, file: &[u8], entry: u64) -> Result<&[u8], Refusal> {
     let (mut start, mut length) = (0, 0);
+    let (bytes, size) = (file.as_ptr(), file.len());
     // SAFETY: as for `check`.
     let answer = unsafe {
-        boundary::ach_addendum(file.as_ptr(), file.len(), entry, &mut start, &mut length)
+        boundary::ach_addendum(way.number(), bytes, size, entry, &mut start, &mut length)
     };
     granted(answer)?;
     Ok(&file[start as usize..][..length as usize])

@@ -5,13 +5,13 @@ use std::fmt;
 /// Why something was refused, and where; record and field are 0 where there is no place to name.
 ///
 /// ```
-/// let refusal = ach::check(b"").unwrap_err();
+/// let refusal = ach::check(ach::Way::Plain, b"").unwrap_err();
 /// assert_eq!(refusal.number, 1);
 /// assert_eq!(refusal.to_string(), "refusal 1: the length of the file is wrong");
 /// ```
 #[derive(Clone, Copy, Debug, PartialEq, Eq)]
 pub struct Refusal {
-    /// The reason, 1 to 25.
+    /// The reason, 1 to 26.
     pub number: u8,
     /// The record, counted from 1.
     pub record: u64,
@@ -45,7 +45,7 @@ impl fmt::Display for Refusal {
 impl std::error::Error for Refusal {}
 
 /// What each number means, from 1 on.
-const REASONS: [&str; 25] = [
+const REASONS: [&str; 26] = [
     "the length of the file is wrong",
     "the data end where a record is still due",
     "a record of this type may not stand here",
@@ -71,13 +71,14 @@ const REASONS: [&str; 25] = [
     "the room for the result is too short",
     "the table is not of the right shape",
     "there is no entry of this number",
+    "the record is not followed by CR LF",
 ];
 
 /// What a refusal's number means; nothing for a number that is none.
 ///
 /// ```
 /// assert_eq!(ach::reason(12), Some("the check digit is wrong"));
-/// assert_eq!(ach::reason(26), None);
+/// assert_eq!(ach::reason(27), None);
 /// ```
 pub fn reason(number: u8) -> Option<&'static str> {
     let index = usize::from(number).checked_sub(1)?;

@@ -1,5 +1,6 @@
 //! The proved library on every sample: the line that the index has, and the tables both ways.
 
+use ach::Way;
 use std::collections::BTreeMap;
 
 /// The files as they lie in the folder, which another test holds equal to these.
@@ -7,11 +8,18 @@ fn files() -> BTreeMap<String, Vec<u8>> {
     samples::all().into_iter().map(|sample| (sample.name, sample.bytes)).collect()
 }
 
+/// Both indexes: the way of a file, its name, and its line.
+fn indexes() -> Vec<(Way, &'static str, &'static str)> {
+    let plain = samples::index().into_iter().map(|(name, line)| (Way::Plain, name, line));
+    let lined = samples::lined_index().into_iter().map(|(name, line)| (Way::Lined, name, line));
+    plain.chain(lined).collect()
+}
+
 #[test]
 fn every_sample_has_its_line() {
     let files = files();
-    for (name, expected) in samples::index() {
-        assert_eq!(ach::line(&ach::check(&files[name])), expected, "{name}");
+    for (way, name, expected) in indexes() {
+        assert_eq!(ach::line(&ach::check(way, &files[name])), expected, "{name}");
     }
 }
 
@@ -21,9 +29,12 @@ fn every_table_is_its_files() {
     let tables: Vec<&String> = files.keys().filter(|name| name.ends_with(".table")).collect();
     assert_eq!(tables.len(), 7);
     for name in tables {
-        let (table, file) = (&files[name], &files[&name.replace(".table", ".ach")]);
-        assert_eq!(ach::file_of(table).as_ref(), Ok(file), "{name}");
-        assert_eq!(ach::table_of(file).as_ref(), Ok(table), "{name}");
+        let (table, plain) = (&files[name], &files[&name.replace(".table", ".ach")]);
+        let lined = generate::lines::lined(plain);
+        for (way, file) in [(Way::Plain, plain), (Way::Lined, &lined)] {
+            assert_eq!(ach::file_of(way, table).as_ref(), Ok(file), "{name}");
+            assert_eq!(ach::table_of(way, file).as_ref(), Ok(table), "{name}");
+        }
     }
 }
 
@@ -31,13 +42,14 @@ fn every_table_is_its_files() {
 #[test]
 fn a_refusal_is_the_same_from_every_function() {
     let files = files();
-    for (name, _) in samples::index().into_iter().filter(|(name, _)| name.starts_with("refused/")) {
+    for (way, name, line) in indexes().into_iter().filter(|(.., line)| line.starts_with("NO ")) {
         let file = &files[name];
-        let refusal = ach::check(file).unwrap_err();
+        let refusal = ach::check(way, file).unwrap_err();
         let mut lent = file.clone();
-        assert_eq!(ach::table_of(file), Err(refusal), "{name}");
-        assert_eq!(ach::alter(&mut lent, 1, 1), Err(refusal), "{name}");
-        assert_eq!(ach::addendum(file, 1), Err(refusal), "{name}");
+        assert_eq!(ach::line(&Err(refusal)), line, "{name}");
+        assert_eq!(ach::table_of(way, file), Err(refusal), "{name}");
+        assert_eq!(ach::alter(way, &mut lent, 1, 1), Err(refusal), "{name}");
+        assert_eq!(ach::addendum(way, file, 1), Err(refusal), "{name}");
         assert_eq!(&lent, file, "{name}");
     }
 }

@@ -1,9 +1,11 @@
 //! Times the proved library against the independent implementation, both in this process and on
-//! the same file of a million records. To be built with `--release`.
+//! the same file of a million records; rows that say so are on the file with line ends. To be built
+//! with `--release`.
 //!
 //! The best of several rounds counts, since whatever else the machine does only adds time. The
 //! rounds of the two sides take turns, so that a slow while hits both.
 
+use generate::lines::lined;
 use generate::{big_file, BigFile};
 use std::hint::black_box;
 use std::time::{Duration, Instant};
@@ -15,37 +17,45 @@ fn main() {
     let shape = BigFile { records: RECORDS, entries_in_batch: 20_000, addendum_every: 4 };
     let file = big_file(&shape);
     println!("a file of {RECORDS} records, {} bytes, best of {ROUNDS}", file.len());
-    println!("           proved library          independent             ratio");
-    check(&file);
+    println!("                proved library          independent             ratio");
+    check("check", ach::Way::Plain, independent::Way::Plain, &file);
+    check("check, lined", ach::Way::Lined, independent::Way::Lined, &lined(&file));
     read_and_write(&file);
     alter(&file);
 }
 
-fn check(file: &[u8]) {
+fn check(name: &str, way: ach::Way, independent_way: independent::Way, file: &[u8]) {
+    let due = "the file is in order";
     race(
-        "check",
-        || ach::check(black_box(file)).map(|held| held.entries).expect("the file is in order"),
+        name,
+        || ach::check(way, black_box(file)).map(|held| held.entries).expect(due),
         || {
-            independent::check(black_box(file))
+            independent::check(independent_way, black_box(file))
                 .map(|held| held.entries)
-                .expect("the file is in order")
+                .expect(due)
         },
     );
 }
 
 fn read_and_write(file: &[u8]) {
-    let table = independent::read(file).expect("the file is in order");
+    let table = independent::read(independent::Way::Plain, file).expect("the file is in order");
     let (mut one, mut other) = (vec![0; table.len()], vec![0; table.len()]);
     race(
         "read",
-        || ach::read(black_box(file), &mut one).expect("the room suffices"),
-        || independent::read_into(black_box(file), &mut other).expect("the room suffices"),
+        || ach::read(ach::Way::Plain, black_box(file), &mut one).expect("the room suffices"),
+        || {
+            independent::read_into(independent::Way::Plain, black_box(file), &mut other)
+                .expect("the room suffices")
+        },
     );
     let (mut one, mut other) = (vec![0; file.len()], vec![0; file.len()]);
     race(
         "write",
-        || ach::write(black_box(&table), &mut one).expect("the room suffices"),
-        || independent::write_into(black_box(&table), &mut other).expect("the room suffices"),
+        || ach::write(ach::Way::Plain, black_box(&table), &mut one).expect("the room suffices"),
+        || {
+            independent::write_into(independent::Way::Plain, black_box(&table), &mut other)
+                .expect("the room suffices")
+        },
     );
 }
 
@@ -54,13 +64,27 @@ fn alter(file: &[u8]) {
     let (mut one, mut other) = (file.to_vec(), file.to_vec());
     race(
         "alter",
-        || ach::alter(black_box(&mut one), entry, 4_711).expect("the entry takes it"),
-        || independent::alter(black_box(&mut other), entry, 4_711).expect("the entry takes it"),
+        || {
+            ach::alter(ach::Way::Plain, black_box(&mut one), entry, 4_711)
+                .expect("the entry takes it")
+        },
+        || {
+            independent::alter(independent::Way::Plain, black_box(&mut other), entry, 4_711)
+                .expect("the entry takes it")
+        },
     );
     race(
         "addendum",
-        || ach::addendum(black_box(file), entry).map(<[u8]>::len).expect("the entry is there"),
-        || independent::addendum(black_box(file), entry).expect("the entry is there").1,
+        || {
+            ach::addendum(ach::Way::Plain, black_box(file), entry)
+                .map(<[u8]>::len)
+                .expect("the entry is there")
+        },
+        || {
+            independent::addendum(independent::Way::Plain, black_box(file), entry)
+                .expect("the entry is there")
+                .1
+        },
     );
 }
 
@@ -88,7 +112,7 @@ fn race<T: PartialEq + std::fmt::Debug>(
         best = [best[0].min(time), best[1].min(other_time)];
     }
     let ratio = best[0].as_secs_f64() / best[1].as_secs_f64();
-    println!("{name:<9}{}{}  {ratio:>6.2}", column(best[0]), column(best[1]));
+    println!("{name:<14}{}{}  {ratio:>6.2}", column(best[0]), column(best[1]));
 }
 
 fn timed<T>(work: &mut impl FnMut() -> T) -> (T, Duration) {

@@ -9,21 +9,21 @@ use crate::progress::Progress;
 use crate::show;
 use crate::trouble::{failed, standard_output, Trouble};
 use crate::words;
-use ach::{Acceptance, Refusal};
+use ach::{Acceptance, Refusal, Way};
 use std::io::{self, BufWriter, Write};
 
 pub fn run(command: Command) -> Result<(), Trouble> {
     match command {
         Command::Help => say(HELP),
         Command::Version => say(&format!("ach {}\n", env!("CARGO_PKG_VERSION"))),
-        Command::Check { file, line } => check(&file, line),
-        Command::Show { file } => show(&file),
-        Command::Read { file, target, line } => read(&file, &target, line),
-        Command::Write { table, target, line } => write(&table, &target, line),
-        Command::Alter { file, entry, amount, target, line } => {
-            alter(&file, &entry, &amount, &target, line)
+        Command::Check { way, file, line } => check(way, &file, line),
+        Command::Show { way, file } => show(way, &file),
+        Command::Read { way, file, target, line } => read(way, &file, &target, line),
+        Command::Write { way, table, target, line } => write(way, &table, &target, line),
+        Command::Alter { way, file, entry, amount, target, line } => {
+            alter(way, &file, &entry, &amount, &target, line)
         }
-        Command::Addendum { file, entry } => addendum(&file, &entry),
+        Command::Addendum { way, file, entry } => addendum(way, &file, &entry),
         Command::Explain { number } => say(&explain::of_number(number)),
     }
 }
@@ -35,9 +35,10 @@ struct Loaded {
     stamp: Option<Stamp>,
 }
 
-fn load_file(source: &Source, line: bool) -> Result<Loaded, Trouble> {
-    load(source, ach::LONGEST_FILE)?
-        .map_err(|name| refused(Refusal::without_place(1), line, || words::of_long_file(&name)))
+fn load_file(way: Way, source: &Source, line: bool) -> Result<Loaded, Trouble> {
+    load(source, way.longest_file())?.map_err(|name| {
+        refused(Refusal::without_place(1), line, || words::of_long_file(way, &name))
+    })
 }
 
 fn load_table(source: &Source, line: bool) -> Result<Loaded, Trouble> {
@@ -105,52 +106,49 @@ fn held_words(held: &Acceptance) -> String {
     )
 }
 
-fn check_bytes(loaded: &Loaded, line: bool) -> Result<Acceptance, Trouble> {
+fn check_bytes(way: Way, loaded: &Loaded, line: bool) -> Result<Acceptance, Trouble> {
     let Loaded { name, bytes, .. } = loaded;
-    watched("checking", name, || ach::check(bytes))
-        .map_err(|refusal| refused(refusal, line, || words::of_file(name, bytes, refusal)))
+    watched("checking", name, || ach::check(way, bytes))
+        .map_err(|refusal| refused(refusal, line, || words::of_file(way, name, bytes, refusal)))
 }
 
-fn check(file: &Source, line: bool) -> Result<(), Trouble> {
-    let loaded = load_file(file, line)?;
-    let held = check_bytes(&loaded, line)?;
+fn check(way: Way, file: &Source, line: bool) -> Result<(), Trouble> {
+    let loaded = load_file(way, file, line)?;
+    let held = check_bytes(way, &loaded, line)?;
     if line {
         return say_line(Ok(held));
     }
     say(&format!("{}: accepted; {}\n", loaded.name, held_words(&held)))
 }
 
-fn show(file: &Source) -> Result<(), Trouble> {
-    let loaded = load_file(file, false)?;
-    let held = check_bytes(&loaded, false)?;
-    let table =
-        watched("reading", &loaded.name, || ach::table_of(&loaded.bytes)).map_err(|refusal| {
-            Trouble::Refused(words::of_file(&loaded.name, &loaded.bytes, refusal))
-        })?;
-    let mut to = BufWriter::new(io::stdout().lock());
-    show::page(&loaded.name, &table, &held, &mut to)
-        .and_then(|()| to.flush())
-        .map_err(standard_output)
-}
-
-fn read(file: &Source, target: &Target, line: bool) -> Result<(), Trouble> {
-    output::look_at(target)?;
-    let loaded = load_file(file, line)?;
+fn show(way: Way, file: &Source) -> Result<(), Trouble> {
+    let loaded = load_file(way, file, false)?;
+    let held = check_bytes(way, &loaded, false)?;
     let Loaded { name, bytes, .. } = &loaded;
-    let table = watched("reading", name, || ach::table_of(bytes))
-        .map_err(|refusal| refused(refusal, line, || words::of_file(name, bytes, refusal)))?;
-    put(target, &table, None)?;
-    report(target, bytes, table.len(), line)
+    let table = watched("reading", name, || ach::table_of(way, bytes))
+        .map_err(|refusal| Trouble::Refused(words::of_file(way, name, bytes, refusal)))?;
+    let mut to = BufWriter::new(io::stdout().lock());
+    show::page(name, &table, &held, &mut to).and_then(|()| to.flush()).map_err(standard_output)
 }
 
-fn write(table: &Source, target: &Target, line: bool) -> Result<(), Trouble> {
+fn read(way: Way, file: &Source, target: &Target, line: bool) -> Result<(), Trouble> {
+    output::look_at(target)?;
+    let loaded = load_file(way, file, line)?;
+    let Loaded { name, bytes, .. } = &loaded;
+    let table = watched("reading", name, || ach::table_of(way, bytes))
+        .map_err(|refusal| refused(refusal, line, || words::of_file(way, name, bytes, refusal)))?;
+    put(target, &table, None)?;
+    report(target, way, bytes, table.len(), line)
+}
+
+fn write(way: Way, table: &Source, target: &Target, line: bool) -> Result<(), Trouble> {
     output::look_at(target)?;
     let loaded = load_table(table, line)?;
     let Loaded { name, bytes, .. } = &loaded;
-    let file = watched("writing from", name, || ach::file_of(bytes))
+    let file = watched("writing from", name, || ach::file_of(way, bytes))
         .map_err(|refusal| refused(refusal, line, || words::of_table(name, bytes, refusal)))?;
     put(target, &file, None)?;
-    report(target, &file, file.len(), line)
+    report(target, way, &file, file.len(), line)
 }
 
 fn put(target: &Target, bytes: &[u8], read: Option<Stamp>) -> Result<(), Trouble> {
@@ -158,8 +156,14 @@ fn put(target: &Target, bytes: &[u8], read: Option<Stamp>) -> Result<(), Trouble
 }
 
 /// Says how much was written, and what the file holds that it stands for.
-fn report(target: &Target, file: &[u8], length: usize, line: bool) -> Result<(), Trouble> {
-    let Ok(held) = ach::check(file) else {
+fn report(
+    target: &Target,
+    way: Way,
+    file: &[u8],
+    length: usize,
+    line: bool,
+) -> Result<(), Trouble> {
+    let Ok(held) = ach::check(way, file) else {
         return failed("the library refuses what it has just granted");
     };
     if line {
@@ -170,6 +174,7 @@ fn report(target: &Target, file: &[u8], length: usize, line: bool) -> Result<(),
 }
 
 fn alter(
+    way: Way,
     file: &Source,
     entry: &Entry,
     amount: &Amount,
@@ -177,15 +182,15 @@ fn alter(
     line: bool,
 ) -> Result<(), Trouble> {
     output::look_at(target)?;
-    let mut loaded = load_file(file, line)?;
+    let mut loaded = load_file(way, file, line)?;
     let (name, bytes) = (&loaded.name, &mut loaded.bytes);
-    let altered = watched("altering", name, || ach::alter(bytes, entry.number, amount.number));
+    let altered = watched("altering", name, || ach::alter(way, bytes, entry.number, amount.number));
     let difference = altered.map_err(|refusal| {
-        refused(refusal, line, || words::of_alteration(name, bytes, refusal, entry, amount))
+        refused(refusal, line, || words::of_alteration(way, name, bytes, refusal, entry, amount))
     })?;
     put(target, bytes, loaded.stamp)?;
     if line {
-        return report(target, bytes, bytes.len(), line);
+        return report(target, way, bytes, bytes.len(), line);
     }
     let old = amount.number as i64 - difference;
     let words = format!(
@@ -199,10 +204,11 @@ fn alter(
     say_beside(target, &words)
 }
 
-fn addendum(file: &Source, entry: &Entry) -> Result<(), Trouble> {
-    let Loaded { name, bytes, .. } = load_file(file, false)?;
-    let text = watched("reading", &name, || ach::addendum(&bytes, entry.number))
-        .map_err(|refusal| Trouble::Refused(words::of_addendum(&name, &bytes, refusal, entry)))?;
+fn addendum(way: Way, file: &Source, entry: &Entry) -> Result<(), Trouble> {
+    let Loaded { name, bytes, .. } = load_file(way, file, false)?;
+    let text = watched("reading", &name, || ach::addendum(way, &bytes, entry.number)).map_err(
+        |refusal| Trouble::Refused(words::of_addendum(way, &name, &bytes, refusal, entry)),
+    )?;
     if text.is_empty() {
         let _ = writeln!(io::stderr().lock(), "{name}: entry {} has no addendum", entry.number);
         return Ok(());

@@ -4,7 +4,8 @@
 
 use crate::money::{of_digits, spelled};
 use crate::words::plain_text;
-use ach::fields::{record_type, Field, Kind, Near, Own, Sum, RECORD};
+use ach::fields::{record_type, Field, Kind, Near, Own, Sum, COLUMNS};
+use ach::Way;
 use std::fmt;
 
 const LARGEST_TOTAL: u64 = 999_999_999_999;
@@ -34,6 +35,7 @@ fn text(text: impl Into<Vec<u8>>, why: &str) -> Due {
 
 /// A refused field in its file.
 pub struct Place<'f> {
+    pub way: Way,
     /// The records before the refused one.
     pub before: &'f [u8],
     pub record: &'f [u8],
@@ -45,7 +47,7 @@ impl<'f> Place<'f> {
     pub fn due(&self) -> Due {
         let width = self.field.width();
         match self.field.kind {
-            Kind::Type => next_types(self.before),
+            Kind::Type => next_types(self.way, self.before),
             Kind::Fixed(number) => text(format!("{number:0width$}"), "in every file"),
             Kind::Blanks => text(vec![b' '; width], "blanks in every file"),
             Kind::Digits => words("digits"),
@@ -95,7 +97,7 @@ impl<'f> Place<'f> {
             Near::Amount => amount_of(part(b'6', 2, self.record)),
             Near::Trace => self.trace(),
             Near::EntryTrace => {
-                let entry = last(self.before).unwrap_or(self.record);
+                let entry = last(self.way, self.before).unwrap_or(self.record);
                 text(&part(b'6', 11, entry)[8..], "as the entry's trace number ends")
             }
             Near::BatchNumber => match self.records_back(b'5').next() {
@@ -134,7 +136,7 @@ impl<'f> Place<'f> {
             Sum::FileCredit => (cents(self.of_file(), true), "the sum of the file's credits"),
             Sum::Batches => (self.records_back(b'5').count() as u64, "the file's batches"),
             Sum::Blocks => {
-                let records = self.before.len() / RECORD + 1;
+                let records = self.before.len() / self.way.record_length() + 1;
                 (records.div_ceil(10) as u64, "this record's number by ten, rounded up")
             }
         };
@@ -148,11 +150,11 @@ impl<'f> Place<'f> {
 
     /// The header of the batch that the record belongs to.
     fn header(&self) -> &'f [u8] {
-        self.records_back(b'5').next().unwrap_or(&[b' '; RECORD])
+        self.records_back(b'5').next().unwrap_or(&[b' '; COLUMNS])
     }
 
     fn of_file(&self) -> impl Iterator<Item = &'f [u8]> {
-        self.before.chunks_exact(RECORD)
+        self.before.chunks_exact(self.way.record_length())
     }
 
     fn of_batch(&self) -> impl Iterator<Item = &'f [u8]> {
@@ -160,18 +162,22 @@ impl<'f> Place<'f> {
     }
 
     fn records_back_in_batch(&self) -> impl Iterator<Item = &'f [u8]> {
-        self.before.rchunks_exact(RECORD).take_while(|record| record[0] != b'5')
+        self.all_back().take_while(|record| record[0] != b'5')
     }
 
     fn records_back(&self, digit: u8) -> impl Iterator<Item = &'f [u8]> {
-        self.before.rchunks_exact(RECORD).filter(move |record| record[0] == digit)
+        self.all_back().filter(move |record| record[0] == digit)
+    }
+
+    fn all_back(&self) -> impl Iterator<Item = &'f [u8]> {
+        self.before.rchunks_exact(self.way.record_length())
     }
 }
 
 /// The record types that may follow the records before.
-pub fn next_types(before: &[u8]) -> Due {
+pub fn next_types(way: Way, before: &[u8]) -> Due {
     let one = |digit, why| text([digit], why);
-    let Some(last) = last(before) else {
+    let Some(last) = last(way, before) else {
         return one(b'1', "the file header");
     };
     match last[0] {
@@ -199,8 +205,8 @@ fn part(digit: u8, field: u8, record: &[u8]) -> &[u8] {
     record_type(digit).and_then(|known| known.field(field)).map_or(&[], |field| field.of(record))
 }
 
-fn last(records: &[u8]) -> Option<&[u8]> {
-    records.rchunks_exact(RECORD).next()
+fn last(way: Way, records: &[u8]) -> Option<&[u8]> {
+    records.rchunks_exact(way.record_length()).next()
 }
 
 fn count<'f>(records: impl Iterator<Item = &'f [u8]>) -> u64 {
@@ -235,41 +241,53 @@ fn check_digit(bank: &[u8]) -> u8 {
 #[cfg(test)]
 mod tests {
     use crate::words::place_of;
+    use ach::Way;
 
     /// Wherever there is but one text that is due, it makes the refusal at that place go away.
     #[test]
     fn what_is_due_is_taken() {
-        let mut tried = std::collections::BTreeSet::new();
-        for vector in vectors::all() {
-            let Err(refusal) = ach::check(&vector.file) else {
-                continue;
-            };
-            let Some(place) = place_of(&vector.file, refusal) else {
-                continue;
-            };
-            let Some(due) = place.due().text else {
-                continue;
-            };
-            let mut mended = vector.file.clone();
-            let start = place.before.len() + place.field.first - 1;
-            mended[start..start + due.len()].copy_from_slice(&due);
-            if let Err(next) = ach::check(&mended) {
-                let behind = (next.record, next.field) > (refusal.record, refusal.field);
-                assert!(behind, "{}: {refusal}, then {next}", vector.about);
+        for (way, vectors) in [(Way::Plain, vectors::all()), (Way::Lined, vectors::lined())] {
+            let mut tried = std::collections::BTreeSet::new();
+            for vector in vectors {
+                let Err(refusal) = ach::check(way, &vector.file) else {
+                    continue;
+                };
+                let Some(place) = place_of(way, &vector.file, refusal) else {
+                    continue;
+                };
+                let Some(due) = place.due().text else {
+                    continue;
+                };
+                let mut mended = vector.file.clone();
+                let start = place.before.len() + place.field.first - 1;
+                mended[start..start + due.len()].copy_from_slice(&due);
+                if let Err(next) = ach::check(way, &mended) {
+                    // The line end, which has field 0, comes behind all fields of its record.
+                    let after = |refusal: ach::Refusal| {
+                        (refusal.record, refusal.number == 26, refusal.field)
+                    };
+                    let behind = after(next) > after(refusal);
+                    assert!(behind, "{}: {refusal}, then {next}", vector.about);
+                }
+                tried.insert(refusal.number);
             }
-            tried.insert(refusal.number);
+            let numbers: Vec<u8> = tried.into_iter().collect();
+            assert_eq!(numbers, [3, 5, 6, 12, 14, 16, 18, 19, 21, 22]);
         }
-        let numbers: Vec<u8> = tried.into_iter().collect();
-        assert_eq!(numbers, [3, 5, 6, 12, 14, 16, 18, 19, 21, 22]);
     }
 
+    /// The same records with line ends have the same words for the same place.
     #[test]
-    fn no_explanation_panics() {
+    fn what_is_due_is_the_same_in_both_ways() {
         for vector in vectors::all() {
-            if let Err(refusal) = ach::check(&vector.file) {
-                let due = place_of(&vector.file, refusal).map(|place| place.due().to_string());
-                assert_ne!(due, Some(String::new()), "{}", vector.about);
-            }
+            let Err(refusal) = ach::check(Way::Plain, &vector.file) else {
+                continue;
+            };
+            let twin = generate::lines::lined(&vector.file);
+            let due = |way, file| place_of(way, file, refusal).map(|place| place.due().to_string());
+            let plain = due(Way::Plain, &vector.file);
+            assert_eq!(plain, due(Way::Lined, &twin), "{}", vector.about);
+            assert_ne!(plain, Some(String::new()), "{}", vector.about);
         }
     }
 }

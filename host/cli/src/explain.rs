@@ -55,8 +55,9 @@ fn numbers_of(kind: Kind) -> &'static [u8] {
 }
 
 /// What each number asks for, from 1 on.
-const ADVICE: [&str; 25] = [
-    "A file is records of 94 bytes, back to back, without line ends: 94 to 94,000,000 bytes.",
+const ADVICE: [&str; 26] = [
+    "A file is records of 94 bytes, back to back, without line ends: 94 to 94,000,000 bytes. With\n\
+     --lined it is records of 96 bytes, CR LF behind each, the last one too: 96 to 96,000,000 bytes.",
     "The file ends early. Part of it is missing, or the fillers behind the file control are.",
     "The order is 1, then batches of a 5, entries and an 8, then a 9 and fillers. An entry is a 6,\n\
      with a 7 behind it exactly if its column 79 is 1. There is at least one batch, and none empty.",
@@ -85,22 +86,25 @@ const ADVICE: [&str; 25] = [
     "The result did not fit where it should go. Programs see this number; this command does not.",
     "A pay table has a header row, batches, entries and addenda, each after a count of six digits.",
     "Entries are counted from 1 through the file, as `ach show` does.",
+    "With --lined, CR LF (the bytes 0D 0A) stands behind column 94 of every record, fillers too.\n\
+     Without --lined there are no line ends, and this number is not given.",
 ];
 
 #[cfg(test)]
 mod tests {
     use super::*;
     use crate::words::place_of;
+    use ach::Way;
     use std::collections::BTreeSet;
 
     #[test]
     fn every_number_seen_is_listed_for_its_field() {
         let mut seen = BTreeSet::new();
         for vector in vectors::all() {
-            let Err(refusal) = ach::check(&vector.file) else {
+            let Err(refusal) = ach::check(Way::Plain, &vector.file) else {
                 continue;
             };
-            if let Some(place) = place_of(&vector.file, refusal) {
+            if let Some(place) = place_of(Way::Plain, &vector.file, refusal) {
                 let numbers = numbers_of(place.field.kind);
                 assert!(numbers.contains(&refusal.number), "{}: {refusal}", vector.about);
                 seen.insert((place.record[0], refusal.field, refusal.number));

@@ -1,5 +1,6 @@
 //! The records that a pay table's rows become, so that a refusal of `write` can be explained by
-//! what stands in them. Nothing that is decided or written comes from here.
+//! what stands in them. Nothing that is decided or written comes from here. The records stand back
+//! to back whatever way is asked for, since a refusal's record and field are the same in both.
 
 const COUNT: usize = 6;
 const HEADER_ROW: usize = 85;
@@ -80,7 +81,7 @@ fn addendum(row: &[u8], entry: &[u8]) -> Vec<u8> {
 
 /// A control of which nothing is known but its type.
 fn control(digit: u8) -> Vec<u8> {
-    let mut record = vec![b' '; ach::fields::RECORD];
+    let mut record = vec![b' '; ach::fields::COLUMNS];
     record[0] = digit;
     record
 }
@@ -91,7 +92,7 @@ pub fn records(table: &[u8], most: usize) -> Vec<u8> {
         return Vec::new();
     };
     let mut file = file_header(sections.header);
-    let enough = most * ach::fields::RECORD;
+    let enough = most * ach::fields::COLUMNS;
     let mut entries = sections.entries();
     for batch in sections.batches() {
         file.extend(batch_header(batch.row));

@@ -2,6 +2,7 @@
 
 use crate::money;
 use crate::trouble::{misused, shown, Trouble};
+use ach::Way;
 use std::ffi::OsString;
 use std::path::{Path, PathBuf};
 
@@ -21,6 +22,8 @@ FILE may be - for standard input, and -o - is standard output. ENTRY counts the
 entries from 1 through the file, as `ach show` does. AMOUNT is 1234.56, or 1234
 for whole dollars: digits, with no point or a point and two digits.
 
+  --lined      the file has, or gets, CR LF behind every record (96 bytes each);
+               without it records stand back to back (94 bytes); nothing guesses
   -o PATH      where the result goes; a file that is there is kept
   --force      replace a file that is there, keeping its permissions
   --in-place   replace the altered file itself, keeping its permissions
@@ -75,12 +78,12 @@ impl Target {
 pub enum Command {
     Help,
     Version,
-    Check { file: Source, line: bool },
-    Show { file: Source },
-    Read { file: Source, target: Target, line: bool },
-    Write { table: Source, target: Target, line: bool },
-    Alter { file: Source, entry: Entry, amount: Amount, target: Target, line: bool },
-    Addendum { file: Source, entry: Entry },
+    Check { way: Way, file: Source, line: bool },
+    Show { way: Way, file: Source },
+    Read { way: Way, file: Source, target: Target, line: bool },
+    Write { way: Way, table: Source, target: Target, line: bool },
+    Alter { way: Way, file: Source, entry: Entry, amount: Amount, target: Target, line: bool },
+    Addendum { way: Way, file: Source, entry: Entry },
     Explain { number: u8 },
 }
 
@@ -103,7 +106,7 @@ struct Given {
     flags: Vec<&'static str>,
 }
 
-const FLAGS: [&str; 3] = ["--force", "--in-place", "--line"];
+const FLAGS: [&str; 4] = ["--force", "--in-place", "--line", "--lined"];
 
 pub fn parse(arguments: impl Iterator<Item = OsString>) -> Result<Command, Trouble> {
     let mut given = Given::default();
@@ -164,26 +167,27 @@ impl Given {
         let command = match name.as_str() {
             "check" => {
                 let [file] = self.take("FILE")?;
-                Command::Check { file: source(&file), line: self.flag("--line") }
+                Command::Check { way: self.way(), file: source(&file), line: self.flag("--line") }
             }
             "show" => {
                 let [file] = self.take("FILE")?;
-                Command::Show { file: source(&file) }
+                Command::Show { way: self.way(), file: source(&file) }
             }
             "read" => {
                 let [file] = self.take("FILE")?;
                 let (target, line) = (self.target()?, self.flag("--line"));
-                Command::Read { file: source(&file), target, line }
+                Command::Read { way: self.way(), file: source(&file), target, line }
             }
             "write" => {
                 let [table] = self.take("TABLE")?;
                 let (target, line) = (self.target()?, self.flag("--line"));
-                Command::Write { table: source(&table), target, line }
+                Command::Write { way: self.way(), table: source(&table), target, line }
             }
             "alter" => self.alter()?,
             "addendum" => {
                 let [file, entry] = self.take("FILE ENTRY")?;
-                Command::Addendum { file: source(&file), entry: entry_number(&entry)? }
+                let entry = entry_number(&entry)?;
+                Command::Addendum { way: self.way(), file: source(&file), entry }
             }
             "explain" => {
                 let [number] = self.take("NUMBER")?;
@@ -207,7 +211,16 @@ impl Given {
             }
             (true, None, Source::File(path)) => Target::InPlace(path.clone()),
         };
-        Ok(Command::Alter { file, entry, amount, target, line: self.flag("--line") })
+        let (way, line) = (self.way(), self.flag("--line"));
+        Ok(Command::Alter { way, file, entry, amount, target, line })
+    }
+
+    fn way(&mut self) -> Way {
+        if self.flag("--lined") {
+            Way::Lined
+        } else {
+            Way::Plain
+        }
     }
 
     /// The words behind the command, as many as it takes.
@@ -290,18 +303,19 @@ mod tests {
     #[test]
     fn options_may_stand_anywhere() {
         let expected = || Command::Read {
+            way: Way::Lined,
             file: Source::File("a".into()),
             target: Target::Replaced("b".into()),
             line: true,
         };
-        for words in ["read a -o b --force --line", "--line -o b read --force a"] {
+        for words in ["read a -o b --force --lined --line", "--line -o b read --lined --force a"] {
             assert_eq!(parsed(words), Ok(expected()), "{words}");
         }
     }
 
     #[test]
     fn a_dash_is_a_stream_and_two_dashes_end_the_options() {
-        let check = |file| Ok(Command::Check { file, line: false });
+        let check = |file| Ok(Command::Check { way: Way::Plain, file, line: false });
         assert_eq!(parsed("check -"), check(Source::StandardInput));
         assert_eq!(parsed("check -- --line"), check(Source::File("--line".into())));
         assert!(parsed("read a -o -").unwrap().has_target(&Target::StandardOutput));
@@ -315,6 +329,38 @@ mod tests {
     }
 
     #[test]
+    fn every_command_on_a_file_takes_its_way() {
+        for words in [
+            "check a",
+            "show a",
+            "read a -o b",
+            "write a -o b",
+            "alter a 1 1.00 -o b",
+            "alter a 1 1.00 --in-place",
+            "addendum a 1",
+        ] {
+            assert_eq!(parsed(words).unwrap().way(), Some(Way::Plain), "{words}");
+            let lined = parsed(&format!("{words} --lined")).unwrap();
+            assert_eq!(lined.way(), Some(Way::Lined), "{words}");
+        }
+        assert_eq!(parsed("explain 12").unwrap().way(), None);
+    }
+
+    impl Command {
+        fn way(&self) -> Option<Way> {
+            match self {
+                Command::Check { way, .. }
+                | Command::Show { way, .. }
+                | Command::Read { way, .. }
+                | Command::Write { way, .. }
+                | Command::Alter { way, .. }
+                | Command::Addendum { way, .. } => Some(*way),
+                Command::Help | Command::Version | Command::Explain { .. } => None,
+            }
+        }
+    }
+
+    #[test]
     fn what_makes_no_sense_is_misuse() {
         for words in [
             "",
@@ -324,6 +370,8 @@ mod tests {
             "check a --force",
             "check a -o b",
             "check a --lin",
+            "check a --lined=yes",
+            "check a --plain",
             "show a --line",
             "read a",
             "read a -o",
@@ -339,8 +387,9 @@ mod tests {
             "alter a -1 1.00 -o b",
             "addendum a",
             "addendum a one",
+            "explain 12 --lined",
             "explain 0",
-            "explain 26",
+            "explain 27",
             "explain 257",
             "explain x",
         ] {

@@ -1,18 +1,21 @@
-//! Refusals in words that a clerk can act on: where, what stands there, what is due.
+//! Refusals in words that a clerk can act on: where, what stands there, what is due, and whether
+//! the other way of a file may have been meant.
 
 use crate::due::{next_types, Place};
 use crate::formed;
 use crate::money::spelled;
 use crate::options::Written;
-use ach::fields::{record_type, RECORD, RECORD_TYPES};
-use ach::Refusal;
+use ach::fields::{record_type, COLUMNS, RECORD_TYPES};
+use ach::{Refusal, Way};
 
-/// Where a refused thing stands, what it is, and what it should be; empty lines are left out.
+/// Where a refused thing stands, what it is, what it should be, and what may help; empty lines are
+/// left out.
 #[derive(Default)]
 struct Explanation {
     place: String,
     stands: String,
     due: String,
+    hint: &'static str,
 }
 
 impl Explanation {
@@ -20,8 +23,12 @@ impl Explanation {
         let number = refusal.number;
         let reason = ach::reason(number).unwrap_or("an unknown reason");
         let mut lines = format!("{name}: refused, {number}: {reason}\n");
-        for (label, line) in [("where", &self.place), ("stands", &self.stands), ("due", &self.due)]
-        {
+        for (label, line) in [
+            ("where", self.place.as_str()),
+            ("stands", &self.stands),
+            ("due", &self.due),
+            ("hint", self.hint),
+        ] {
             if !line.is_empty() {
                 lines += &format!("  {label:<7}{line}\n");
             }
@@ -31,17 +38,38 @@ impl Explanation {
 }
 
 /// A file's own refusal.
-pub fn of_file(name: &str, file: &[u8], refusal: Refusal) -> String {
-    let explanation = match refusal.number {
-        1 => length(file),
-        _ => in_records(file, refusal),
+pub fn of_file(way: Way, name: &str, file: &[u8], refusal: Refusal) -> String {
+    let mut explanation = match refusal.number {
+        1 => length(way, file),
+        26 => line_end(way, file, refusal),
+        _ => in_records(way, file, refusal),
     };
+    explanation.hint = hint(way, file);
     explanation.lines(name, refusal)
 }
 
-pub fn of_long_file(name: &str) -> String {
-    let stands = format!("more than {} bytes", ach::LONGEST_FILE);
-    Explanation { stands, due: due_length(), ..Explanation::default() }
+/// Whether the other way may have been meant. It is said and not acted upon.
+fn hint(asked: Way, file: &[u8]) -> &'static str {
+    let looks_like = |way: Way| {
+        let whole = !file.is_empty() && file.len().is_multiple_of(way.record_length());
+        let first_end = file.get(COLUMNS..Way::Lined.record_length());
+        let lined = first_end == Some(Way::Lined.line_end());
+        whole && lined == (way == Way::Lined)
+    };
+    match asked {
+        Way::Plain if looks_like(Way::Lined) => {
+            "CR LF stands behind the first record: --lined is for files with line ends"
+        }
+        Way::Lined if looks_like(Way::Plain) => {
+            "the length is that of records without line ends: leave out --lined for those"
+        }
+        _ => "",
+    }
+}
+
+pub fn of_long_file(way: Way, name: &str) -> String {
+    let stands = format!("more than {} bytes", way.longest_file());
+    Explanation { stands, due: due_length(way), ..Explanation::default() }
         .lines(name, Refusal::without_place(1))
 }
 
@@ -62,9 +90,9 @@ pub fn of_table(name: &str, table: &[u8], refusal: Refusal) -> String {
         },
         _ => {
             let records = formed::records(table, refusal.record as usize);
-            let mut explanation = in_records(&records, refusal);
+            let mut explanation = in_records(Way::Plain, &records, refusal);
             explanation.place = format!("{} of the file to be written", explanation.place);
-            let last = records.rchunks_exact(RECORD).next();
+            let last = records.rchunks_exact(COLUMNS).next();
             if last.is_some_and(|record| matches!(record[0], b'8' | b'9')) {
                 // The control's own text is not known here, only its type.
                 explanation.stands = String::new();
@@ -80,42 +108,44 @@ pub fn of_table(name: &str, table: &[u8], refusal: Refusal) -> String {
 
 /// A refusal to alter: the file's own, or if it is in order that of the entry or the amount.
 pub fn of_alteration(
+    way: Way,
     name: &str,
     file: &[u8],
     refusal: Refusal,
     entry: &Written,
     amount: &Written,
 ) -> String {
-    if ach::check(file).is_err() {
-        return of_file(name, file, refusal);
+    if ach::check(way, file).is_err() {
+        return of_file(way, name, file, refusal);
     }
     let explanation = match refusal.number {
-        25 => no_entry(file, entry),
+        25 => no_entry(way, file, entry),
         14 => {
-            let mut explanation = in_records(file, refusal);
+            let mut explanation = in_records(way, file, refusal);
             explanation.stands += &format!("; asked for is {}", amount.text);
             explanation
         }
         20 => Explanation {
-            place: in_records(file, refusal).place,
+            place: in_records(way, file, refusal).place,
             stands: format!("with {} for entry {} the sum is too large", amount.text, entry.text),
             due: format!("a sum of at most {}", spelled(999_999_999_999)),
+            ..Explanation::default()
         },
-        _ => return of_file(name, file, refusal),
+        _ => return of_file(way, name, file, refusal),
     };
     explanation.lines(name, refusal)
 }
 
 /// A refusal to give an entry's addendum.
-pub fn of_addendum(name: &str, file: &[u8], refusal: Refusal, entry: &Written) -> String {
+pub fn of_addendum(way: Way, name: &str, file: &[u8], refusal: Refusal, entry: &Written) -> String {
     match refusal.number {
-        25 => no_entry(file, entry).lines(name, refusal),
-        _ => of_file(name, file, refusal),
+        25 => no_entry(way, file, entry).lines(name, refusal),
+        _ => of_file(way, name, file, refusal),
     }
 }
 
-fn no_entry(file: &[u8], entry: &Written) -> Explanation {
-    let entries = ach::check(file).map_or(0, |held| held.entries);
+fn no_entry(way: Way, file: &[u8], entry: &Written) -> Explanation {
+    let entries = ach::check(way, file).map_or(0, |held| held.entries);
     Explanation {
         stands: format!("entry {}", entry.text),
         due: format!("an entry from 1 to {entries}"),
@@ -123,23 +153,56 @@ fn no_entry(file: &[u8], entry: &Written) -> Explanation {
     }
 }
 
-fn due_length() -> String {
-    let most = ach::LONGEST_FILE;
-    format!("a multiple of 94 bytes, from 94 to {most}: records back to back, no line ends")
+/// The way that was asked for, as the lengths and line ends that it has.
+fn due_length(way: Way) -> String {
+    let (one, most) = (way.record_length(), way.longest_file());
+    let records = match way {
+        Way::Plain => "records back to back, no line ends",
+        Way::Lined => "with --lined, CR LF behind every record, the last one too",
+    };
+    format!("a multiple of {one} bytes, from {one} to {most}: {records}")
 }
 
-fn length(file: &[u8]) -> Explanation {
-    let line_ends = file.iter().filter(|byte| **byte == b'\n').count();
+fn length(way: Way, file: &[u8]) -> Explanation {
+    let one = way.record_length();
     let mut stands = match file.len() {
         0 => "nothing: the file is empty".to_string(),
-        length => {
-            format!("{length} bytes: {} records and {} bytes", length / RECORD, length % RECORD)
-        }
+        length => format!("{length} bytes: {} records and {} bytes", length / one, length % one),
     };
-    if line_ends > 0 {
-        stands += &format!("; there are {line_ends} line ends among them");
+    stands += &line_feeds(way, file);
+    Explanation { stands, due: due_length(way), ..Explanation::default() }
+}
+
+/// What is to be said of the line ends in a file of wrong length.
+fn line_feeds(way: Way, file: &[u8]) -> String {
+    let all = file.iter().filter(|byte| **byte == b'\n').count();
+    let lone = all - file.windows(2).filter(|pair| *pair == b"\r\n").count();
+    match way {
+        Way::Plain if all > 0 => format!("; there are {all} line ends among them"),
+        Way::Lined if all == 0 && !file.is_empty() => "; there are no line ends among them".into(),
+        Way::Lined if lone > 0 => format!("; {lone} of {all} line feeds have no CR before them"),
+        _ => String::new(),
     }
-    Explanation { stands, due: due_length(), ..Explanation::default() }
+}
+
+/// What stands behind the columns of a record, all of which are in order.
+fn line_end(way: Way, file: &[u8], refusal: Refusal) -> Explanation {
+    let start = (refusal.record as usize).saturating_sub(1) * way.record_length();
+    let Some(record) = file.get(start..start + way.record_length()) else {
+        return Explanation::default();
+    };
+    let (columns, end) = record.split_at(COLUMNS);
+    let name = if columns.iter().all(|byte| *byte == b'9') {
+        format!("record {}, a filler", refusal.record)
+    } else {
+        record_name(way, file, refusal)
+    };
+    Explanation {
+        place: format!("{name}, behind column {COLUMNS}"),
+        stands: plain_text(end),
+        due: format!("{}, CR LF behind every record", plain_text(way.line_end())),
+        ..Explanation::default()
+    }
 }
 
 fn shape(table: &[u8]) -> Explanation {
@@ -166,35 +229,37 @@ fn shape(table: &[u8]) -> Explanation {
 }
 
 /// The refused field and what is before it; nothing if no field is named or it is not there.
-pub fn place_of(file: &[u8], refusal: Refusal) -> Option<Place<'_>> {
-    let start = (refusal.record as usize).checked_sub(1)?.checked_mul(RECORD)?;
-    let record = file.get(start..start + RECORD)?;
+pub fn place_of(way: Way, file: &[u8], refusal: Refusal) -> Option<Place<'_>> {
+    let start = (refusal.record as usize).checked_sub(1)?.checked_mul(way.record_length())?;
+    let record = file.get(start..start + COLUMNS)?;
     // A record that is none has a type all the same: what stands in its first column.
     let known = record_type(record[0]).filter(|_| refusal.number != 3);
     let field = known.unwrap_or(&RECORD_TYPES[0]).field(refusal.field)?;
-    Some(Place { before: &file[..start], record, field, number: refusal.number })
+    Some(Place { way, before: &file[..start], record, field, number: refusal.number })
 }
 
-fn in_records(file: &[u8], refusal: Refusal) -> Explanation {
-    if let Some(place) = place_of(file, refusal) {
+fn in_records(way: Way, file: &[u8], refusal: Refusal) -> Explanation {
+    if let Some(place) = place_of(way, file, refusal) {
         let Place { field, record, .. } = place;
         return Explanation {
             place: format!(
                 "{}, field {} {}, {}",
-                record_name(file, refusal),
+                record_name(way, file, refusal),
                 refusal.field,
                 field.name,
                 columns(field.first, field.last)
             ),
             stands: plain_text(field.of(record)),
             due: place.due().to_string(),
+            ..Explanation::default()
         };
     }
     let before = (refusal.record as usize).saturating_sub(1);
-    let whole = file.get(before * RECORD..(before + 1) * RECORD);
-    let (stands, due) = match (refusal.number, whole) {
+    let start = before * way.record_length();
+    let (stands, due) = match (refusal.number, file.get(start..start + COLUMNS)) {
         (2, _) => {
-            (format!("nothing: the file ends with record {before}"), next_types(file).to_string())
+            let due = next_types(way, file).to_string();
+            (format!("nothing: the file ends with record {before}"), due)
         }
         (4, Some(record)) => {
             (plain_text(record), format!("nothing: the file is full with record {before}"))
@@ -202,19 +267,25 @@ fn in_records(file: &[u8], refusal: Refusal) -> Explanation {
         (_, Some(record)) => (plain_text(record), "a filler of 94 nines".into()),
         (_, None) => (String::new(), String::new()),
     };
-    Explanation { place: format!("record {}", refusal.record), stands, due }
+    Explanation {
+        place: format!("record {}", refusal.record),
+        stands,
+        due,
+        ..Explanation::default()
+    }
 }
 
 /// Such as "record 4, entry 2".
-fn record_name(file: &[u8], refusal: Refusal) -> String {
-    let start = (refusal.record as usize - 1) * RECORD;
-    let digit = file[start];
+fn record_name(way: Way, file: &[u8], refusal: Refusal) -> String {
     let number = refusal.record;
     if refusal.number == 3 {
         return format!("record {number}");
     }
-    let up_to = file[..start + RECORD].chunks_exact(RECORD);
+    let length = way.record_length();
+    let start = (number as usize - 1) * length;
+    let up_to = file[..start].chunks_exact(length).chain([&file[start..]]);
     let entries = up_to.filter(|record| record[0] == b'6').count();
+    let digit = file[start];
     let name = record_type(digit).map_or("", |known| known.name);
     match digit {
         b'6' => format!("record {number}, type 6 {name} {entries}"),

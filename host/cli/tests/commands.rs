@@ -248,7 +248,7 @@ fn every_entry_is_shown_with_its_amount() {
 
 #[test]
 fn explain() {
-    for number in 1..=25 {
+    for number in 1..=26 {
         let run = ach!("explain", number.to_string());
         assert_eq!((run.status, run.err.as_str()), (0, ""));
         assert!(run.out.starts_with(&format!("{number}: ")), "{run:?}");
@@ -261,14 +261,24 @@ Batch numbers start at 1 or above, and each is greater than the one before.
 ",
         "",
     );
-    ach!("explain", "26").fails_with("no refusal has the number 26");
+    ach!("explain", "26").is(
+        0,
+        "26: the record is not followed by CR LF
+With --lined, CR LF (the bytes 0D 0A) stands behind column 94 of every record, fillers too.
+Without --lined there are no line ends, and this number is not given.
+",
+        "",
+    );
+    ach!("explain", "27").fails_with("no refusal has the number 27");
 }
 
 #[test]
 fn help_and_version() {
     let help = ach!("--help");
     assert_eq!((help.status, help.err.as_str()), (0, ""));
-    for name in ["check", "read", "write", "alter", "addendum", "show", "explain", "--line"] {
+    for name in
+        ["check", "read", "write", "alter", "addendum", "show", "explain", "--line", "--lined"]
+    {
         assert!(help.out.contains(name), "{name}");
     }
     ach!("--version").is(0, concat!("ach ", env!("CARGO_PKG_VERSION"), "\n"), "");

@@ -257,10 +257,21 @@ fn a_file_that_is_too_long_is_not_read() {
         path.display()
     );
     ach!("show", path).is(1, "", &words);
-    File::options().write(true).open(&path).unwrap().set_len(94_000_001).unwrap();
-    ach!("check", path, "--line").is(1, "NO 1 0 0\n", "");
+    let words = words.replace("94000000", "96000000").replace("94", "96");
+    let words = words.replace("records back to back, no line ends", LINED_DUE);
+    ach!("show", path, "--lined").is(1, "", &words);
+    for (length, options) in
+        [(94_000_001, ["--line"].as_slice()), (96_000_001, &["--line", "--lined"])]
+    {
+        File::options().write(true).open(&path).unwrap().set_len(length).unwrap();
+        let arguments = ["check".as_ref(), path.as_os_str()].into_iter();
+        let run = common::ach(arguments.chain(options.iter().map(OsStr::new)));
+        run.is(1, "NO 1 0 0\n", "");
+    }
     assert_eq!(folder.names(), ["huge"]);
 }
+
+const LINED_DUE: &str = "with --lined, CR LF behind every record, the last one too";
 
 #[test]
 fn a_stream_that_is_too_long_is_left() {
@@ -270,9 +281,16 @@ fn a_stream_that_is_too_long_is_left() {
     fed(&["check", "-", "--line"], &bytes[..most]).is(1, "NO 3 1 1\n", "");
     fed(&["check", "-", "--line"], &bytes[..most + 1]).is(1, "NO 1 0 0\n", "");
     fed(&["check", "-", "--line"], &bytes).is(1, "NO 1 0 0\n", "");
-    let endless = File::open("/dev/zero").unwrap();
-    let run = command().args(["check", "-", "--line"]).stdin(endless).output().unwrap();
-    Run::of(run).is(1, "NO 1 0 0\n", "");
+    let most = RECORDS_IN_LONGEST * 96;
+    let bytes = vec![b'9'; most + 1];
+    fed(&["check", "-", "--line", "--lined"], &bytes[..most]).is(1, "NO 3 1 1\n", "");
+    fed(&["check", "-", "--line", "--lined"], &bytes).is(1, "NO 1 0 0\n", "");
+    for way in [None, Some("--lined")] {
+        let endless = File::open("/dev/zero").unwrap();
+        let mut command = command();
+        command.args(["check", "-", "--line"]).args(way).stdin(endless);
+        Run::of(command.output().unwrap()).is(1, "NO 1 0 0\n", "");
+    }
 }
 
 #[test]

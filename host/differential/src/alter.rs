@@ -1,12 +1,14 @@
 //! Altering amounts and asking for addenda: the same answers, and the file as if written afresh.
 
 use crate::tally::{Outcome, Tally, PATTERN};
-use crate::Run;
+use crate::{ways, Run};
 use ach::boundary::{ach_addendum, ach_alter};
 use generate::damage::random_damage;
+use generate::lines::{lined, random_end_damage, with_end, WRONG_ENDS};
 use generate::{is_credit, near_limit, plan, sample, Batch, Entry, Plan, Random};
+use independent::Way;
 
-const DEFAULT_CASES: u64 = 100_000;
+const DEFAULT_CASES: u64 = 300_000;
 const LARGEST_TOTAL: u64 = 999_999_999_999;
 const LONGEST_RUN: usize = 50;
 
@@ -34,6 +36,7 @@ pub fn compare(run: &Run, tally: &mut Tally) {
     for base in &bases {
         every_entry(tally, base);
     }
+    line_ends(tally);
     limits(tally);
     while tally.cases() < cases {
         let plan = plan(&mut random, 4, 6);
@@ -43,18 +46,43 @@ pub fn compare(run: &Run, tally: &mut Tally) {
 }
 
 fn bad_inputs(tally: &mut Tally) {
-    // SAFETY: of no bytes none is read or written, so the pointer to them may be null.
-    let (asked, altered) =
-        unsafe { (asked(std::ptr::null(), 0, 1), altered(std::ptr::null_mut(), 0, 1, 1)) };
-    tally.compare("a null pointer", b"", asked, expected_addendum(b"", 1));
-    tally.compare("a null pointer", b"", altered, expected_alteration(b"", 1, 1, b""));
-
-    let file = sample().file();
-    for length in 0..file.len() {
-        let cut = &file[..length];
-        alter(tally, "a file cut", cut, 1, 1, cut);
-        addendum(tally, "a file cut", cut, 1);
+    for way in [0].into_iter().chain(ways::SECOND) {
+        // SAFETY: of no bytes none is read or written, so the pointer to them may be null.
+        let (asked, altered) = unsafe {
+            (asked(way, std::ptr::null(), 0, 1), altered(way, std::ptr::null_mut(), 0, 1, 1))
+        };
+        let expected = expected_alteration(Way::Plain, b"", 1, 1, b"");
+        tally.compare("a null pointer", b"", asked, expected_addendum(Way::Plain, b"", 1));
+        tally.compare("a null pointer", b"", altered, expected);
     }
+    for way in Way::BOTH {
+        let file = ways::in_way(way, &sample().file());
+        for length in 0..file.len() {
+            refused(tally, "a file cut", way, &file[..length], 1, 1);
+        }
+    }
+}
+
+/// Whoever asks about a file whose line ends are not all there gets their refusal, and the file
+/// stays.
+fn line_ends(tally: &mut Tally) {
+    let file = sample().lined_file();
+    for record in 1..=10 {
+        for end in WRONG_ENDS {
+            let damaged = with_end(&file, record, end);
+            for (entry, amount) in [(1, 1), (2, 0), (0, 1), (u64::MAX, u64::MAX)] {
+                refused(tally, "a wrong line end", Way::Lined, &damaged, entry, amount);
+            }
+        }
+    }
+    refused(tally, "line ends", Way::Plain, &file, 1, 1);
+    refused(tally, "no line ends", Way::Lined, &sample().file(), 1, 1);
+}
+
+/// Puts both questions about an entry of a file that is none.
+fn refused(tally: &mut Tally, about: &str, way: Way, file: &[u8], entry: u64, amount: u64) {
+    alter_in_way(tally, about, way, file, (entry, amount), file);
+    addendum_in_way(tally, about, way, file, entry);
 }
 
 /// Entry numbers inside and outside a file of so many entries.
@@ -77,7 +105,7 @@ fn every_entry(tally: &mut Tally, plan: &Plan) {
 /// is given back. A plan that may not be altered so stays.
 fn one_alteration(tally: &mut Tally, plan: &Plan, file: &[u8], entry: u64, amount: u64) -> Plan {
     let mut altered = plan.clone();
-    if independent::alter(&mut file.to_vec(), entry, amount).is_ok() {
+    if independent::alter(Way::Plain, &mut file.to_vec(), entry, amount).is_ok() {
         entry_of(&mut altered, entry).expect("it was altered").amount = amount;
     }
     let about = format!("entry {entry}, amount {amount}");
@@ -90,7 +118,8 @@ fn entry_of(plan: &mut Plan, entry: u64) -> Option<&mut Entry> {
     plan.batches.iter_mut().flat_map(|batch| &mut batch.entries).nth(index)
 }
 
-/// Puts an alteration to both sides; the file has to become `expected_file`.
+/// Puts an alteration to both sides, and that of the same records with line ends; the file has to
+/// become `expected_file`, with line ends or without, and the answers have to be the same.
 fn alter(
     tally: &mut Tally,
     about: &str,
@@ -99,56 +128,100 @@ fn alter(
     amount: u64,
     expected_file: &[u8],
 ) {
+    let plain = alter_in_way(tally, about, Way::Plain, file, (entry, amount), expected_file);
+    let (twin, expected_twin) = (lined(file), lined(expected_file));
+    let with_ends = alter_in_way(tally, about, Way::Lined, &twin, (entry, amount), &expected_twin);
+    tally.holds("the same alteration in both ways", file, plain == with_ends);
+}
+
+/// The answer and the difference given.
+fn alter_in_way(
+    tally: &mut Tally,
+    about: &str,
+    way: Way,
+    file: &[u8],
+    (entry, amount): (u64, u64),
+    expected_file: &[u8],
+) -> (u64, u64) {
     let mut lent = file.to_vec();
+    let number = ways::number(way, tally.cases());
     // SAFETY: the pointer comes from a slice of that length, lent for writing.
-    let mut given = unsafe { altered(lent.as_mut_ptr(), lent.len(), entry, amount) };
+    let mut given = unsafe { altered(number, lent.as_mut_ptr(), lent.len(), entry, amount) };
     given.memory = &lent;
-    tally.compare(about, file, given, expected_alteration(file, entry, amount, expected_file));
+    let said = (given.answer, given.numbers[0]);
+    let expected = expected_alteration(way, file, entry, amount, expected_file);
+    tally.compare(about, file, given, expected);
+    said
 }
 
 /// The answer and the difference that the boundary gives for an alteration.
 ///
 /// # Safety
 /// There have to be so many bytes to read and to write at `file`.
-unsafe fn altered(file: *mut u8, length: usize, entry: u64, amount: u64) -> Outcome<'static, 1> {
+unsafe fn altered(
+    way: u64,
+    file: *mut u8,
+    length: usize,
+    entry: u64,
+    amount: u64,
+) -> Outcome<'static, 1> {
     let mut difference = PATTERN as i64;
-    let answer = ach_alter(file, length, entry, amount, &mut difference);
+    let answer = ach_alter(way, file, length, entry, amount, &mut difference);
     Outcome { answer, numbers: [difference as u64], memory: &[] }
 }
 
 fn expected_alteration<'m>(
+    way: Way,
     file: &[u8],
     entry: u64,
     amount: u64,
     memory: &'m [u8],
 ) -> Outcome<'m, 1> {
-    match independent::alter(&mut file.to_vec(), entry, amount) {
+    match independent::alter(way, &mut file.to_vec(), entry, amount) {
         Ok(difference) => Outcome { answer: 0, numbers: [difference as u64], memory },
         Err(refusal) => Outcome::refused(refusal, memory),
     }
 }
 
-/// Asks both sides for an addendum.
+/// Asks both sides for an addendum, without line ends and with them; the same text has to be
+/// meant.
 fn addendum(tally: &mut Tally, about: &str, file: &[u8], entry: u64) {
+    let mut plain = addendum_in_way(tally, about, Way::Plain, file, entry);
+    let with_ends = addendum_in_way(tally, about, Way::Lined, &lined(file), entry);
+    if plain.answer == 0 {
+        plain.numbers[0] = ways::moved(plain.numbers[0]);
+    }
+    tally.holds("the same addendum in both ways", file, plain == with_ends);
+}
+
+fn addendum_in_way(
+    tally: &mut Tally,
+    about: &str,
+    way: Way,
+    file: &[u8],
+    entry: u64,
+) -> Outcome<'static, 2> {
+    let number = ways::number(way, tally.cases());
     // SAFETY: the pointer comes from a slice of that length.
-    let given = unsafe { asked(file.as_ptr(), file.len(), entry) };
+    let given = unsafe { asked(number, file.as_ptr(), file.len(), entry) };
     let about = format!("{about}, addendum of entry {entry}");
-    tally.compare(&about, file, given, expected_addendum(file, entry));
+    tally.compare(&about, file, given.clone(), expected_addendum(way, file, entry));
+    given
 }
 
 /// The answer, the start and the length that the boundary gives for an addendum.
 ///
 /// # Safety
 /// There have to be so many bytes to read at `file`.
-unsafe fn asked(file: *const u8, length: usize, entry: u64) -> Outcome<'static, 2> {
+unsafe fn asked(way: u64, file: *const u8, length: usize, entry: u64) -> Outcome<'static, 2> {
     let mut numbers = [PATTERN; 2];
     let [start, text_length] = &mut numbers;
-    let answer = ach_addendum(file, length, entry, start, text_length);
+    let answer = ach_addendum(way, file, length, entry, start, text_length);
     Outcome { answer, numbers, memory: &[] }
 }
 
-fn expected_addendum(file: &[u8], entry: u64) -> Outcome<'static, 2> {
-    match independent::addendum(file, entry) {
+fn expected_addendum(way: Way, file: &[u8], entry: u64) -> Outcome<'static, 2> {
+    match independent::addendum(way, file, entry) {
         Ok((start, length)) => {
             Outcome { answer: 0, numbers: [start as u64, length as u64], memory: &[] }
         }
@@ -232,7 +305,15 @@ fn damaged_file(tally: &mut Tally, random: &mut Random) {
     let entry = *random.pick(&[0, 1, 2, 3, u64::MAX]);
     let amount = *random.pick(&AMOUNTS);
     let mut expected_file = file.clone();
-    let _ = independent::alter(&mut expected_file, entry, amount);
+    let _ = independent::alter(Way::Plain, &mut expected_file, entry, amount);
     alter(tally, "a damaged file", &file, entry, amount, &expected_file);
     addendum(tally, "a damaged file", &file, entry);
+
+    let about = "a file with damaged line ends";
+    let base = if random.one_in(2) { &whole } else { &file };
+    let damaged = random_end_damage(random, &lined(base));
+    let mut expected_file = damaged.clone();
+    let _ = independent::alter(Way::Lined, &mut expected_file, entry, amount);
+    alter_in_way(tally, about, Way::Lined, &damaged, (entry, amount), &expected_file);
+    addendum_in_way(tally, about, Way::Lined, &damaged, entry);
 }

@@ -1,7 +1,7 @@
 //! The check: the same verdict, and the acceptance filled or left alone.
 
 use crate::tally::{Outcome, Tally, PATTERN};
-use crate::Run;
+use crate::{ways, Run};
 use ach::boundary::ach_check;
 use ach::ACCEPTANCE_LENGTH;
 use generate::columns::{field_count, place};
@@ -9,9 +9,11 @@ use generate::damage::{
     field_values, random_damage, resealed, with_column, with_field, with_record_doubled,
     with_record_inserted, with_records_swapped, without_record,
 };
+use generate::lines::{lined, random_end_damage, with_end, LINED_RECORD, SHIFTED_ENDS, WRONG_ENDS};
 use generate::{
     big_file, is_credit, is_prenote, near_limit, plan, sample, BigFile, Plan, Random, CODES, RECORD,
 };
+use independent::Way;
 
 const DEFAULT_CASES: u64 = 100_000;
 const MOST_RECORDS: usize = 1_000_000;
@@ -20,11 +22,13 @@ pub fn compare(run: &Run, tally: &mut Tally) {
     let cases = run.cases.unwrap_or(DEFAULT_CASES);
     let mut random = Random::new(run.seed);
     bad_inputs(tally);
-    every_byte(tally);
+    every_byte(tally, Way::Plain, sample().file());
+    every_byte(tally, Way::Lined, sample().lined_file());
     for base in bases(&mut random) {
         every_cut(tally, &base);
         every_field(tally, &base);
         every_record(tally, &base);
+        every_line_end(tally, &base);
     }
     fillers(tally);
     limits(tally);
@@ -33,28 +37,39 @@ pub fn compare(run: &Run, tally: &mut Tally) {
     biggest_files(tally);
 }
 
-/// Puts a file to both sides; the answer and all 21 numbers have to agree.
+/// Puts a file without line ends to both sides, and its records with line ends in the second way.
+/// The two have to be answered alike.
 fn both(tally: &mut Tally, about: &str, file: &[u8]) {
+    let plain = in_way(tally, about, Way::Plain, file);
+    let twin = lined(file);
+    let with_ends = in_way(tally, about, Way::Lined, &twin);
+    tally.holds("the same answer in both ways", file, plain == with_ends);
+}
+
+/// Puts a file to both sides; the answer and all 21 numbers have to agree.
+fn in_way(tally: &mut Tally, about: &str, way: Way, file: &[u8]) -> Verdict {
+    let number = ways::number(way, tally.cases());
     // SAFETY: the pointer comes from a slice of that length.
-    let given = unsafe { checked(file.as_ptr(), file.len()) };
-    tally.compare(about, file, given, expected(file));
+    let given = unsafe { checked(number, file.as_ptr(), file.len()) };
+    tally.compare(about, file, given.clone(), expected(way, file));
+    given
 }
 
 /// The outcome of the boundary's check.
 ///
 /// # Safety
 /// There have to be so many bytes to read at `file`.
-unsafe fn checked(file: *const u8, length: usize) -> Verdict {
+unsafe fn checked(way: u64, file: *const u8, length: usize) -> Verdict {
     let mut numbers = [PATTERN; ACCEPTANCE_LENGTH];
-    let answer = ach_check(file, length, numbers.as_mut_ptr());
+    let answer = ach_check(way, file, length, numbers.as_mut_ptr());
     Outcome { answer, numbers, memory: &[] }
 }
 
 /// The check is lent no memory but the numbers.
 type Verdict = Outcome<'static, ACCEPTANCE_LENGTH>;
 
-fn expected(file: &[u8]) -> Verdict {
-    let held = match independent::check(file) {
+fn expected(way: Way, file: &[u8]) -> Verdict {
+    let held = match independent::check(way, file) {
         Ok(held) => held,
         Err(refusal) => return Outcome::refused(refusal, &[]),
     };
@@ -65,28 +80,34 @@ fn expected(file: &[u8]) -> Verdict {
 }
 
 fn bad_inputs(tally: &mut Tally) {
-    // SAFETY: of no bytes none is read, so the pointer to them may be null.
-    let given = unsafe { checked(std::ptr::null(), 0) };
-    tally.compare("a null pointer", b"", given, expected(b""));
-
-    let file = sample().file();
-    for length in [0, 1, 93, 95] {
-        both(tally, "a length that is none", &file[..length]);
+    for number in [0].into_iter().chain(ways::SECOND) {
+        // SAFETY: of no bytes none is read, so the pointer to them may be null.
+        let given = unsafe { checked(number, std::ptr::null(), 0) };
+        tally.compare("a null pointer", b"", given, expected(Way::Plain, b""));
     }
-    for length in [1, RECORD, 10 * RECORD, 20 * RECORD] {
-        for byte in 0..=255 {
-            both(tally, "one byte throughout", &vec![byte; length]);
+    let (file, with_ends) = (sample().file(), sample().lined_file());
+    for way in Way::BOTH {
+        for length in [0, 1, 93, 94, 95, 96, 97] {
+            in_way(tally, "a length that is none", way, &file[..length]);
         }
+        // The last two are a whole number of records in both ways.
+        for length in [1, 94, 96, 940, 960, 1_880, 1_920, 4_512, 45_120] {
+            for byte in 0..=255 {
+                in_way(tally, "one byte throughout", way, &vec![byte; length]);
+            }
+        }
+        in_way(tally, "the sample", way, &file);
+        in_way(tally, "the sample with line ends", way, &with_ends);
     }
 }
 
-fn every_byte(tally: &mut Tally) {
-    let mut file = sample().file();
+/// Every byte of a file, line ends included, set to every value.
+fn every_byte(tally: &mut Tally, way: Way, mut file: Vec<u8>) {
     for place in 0..file.len() {
         let kept = file[place];
         for byte in 0..=255 {
             file[place] = byte;
-            both(tally, "a byte of the sample", &file);
+            in_way(tally, "a byte of the sample", way, &file);
         }
         file[place] = kept;
     }
@@ -128,14 +149,54 @@ fn renumber(plan: &mut Plan) {
     }
 }
 
+/// Every front part of a file, in its own way and, to see that nobody guesses, in the other.
 fn every_cut(tally: &mut Tally, base: &[u8]) {
+    let with_ends = lined(base);
     for length in 0..=base.len() {
-        both(tally, "a cut", &base[..length]);
+        in_way(tally, "a cut", Way::Plain, &base[..length]);
+    }
+    for length in 0..=with_ends.len() {
+        in_way(tally, "a cut", Way::Lined, &with_ends[..length]);
+    }
+    in_way(tally, "no line ends", Way::Lined, base);
+    in_way(tally, "line ends", Way::Plain, &with_ends);
+}
+
+/// The line end of every record damaged: alone, with another, behind a fault, before one, and at
+/// the end of the data.
+fn every_line_end(tally: &mut Tally, base: &[u8]) {
+    let file = lined(base);
+    let records = base.len() / RECORD;
+    let mut try_one = |about: &str, file: &[u8]| {
+        in_way(tally, about, Way::Lined, file);
+    };
+    for record in 1..=records {
+        for end in WRONG_ENDS {
+            let damaged = with_end(&file, record, end);
+            try_one("a wrong line end", &damaged);
+            try_one("a wrong line end, and data end", &damaged[..record * LINED_RECORD]);
+            let longer = [damaged.as_slice(), &file[..LINED_RECORD]].concat();
+            try_one("a wrong line end, and a record too many", &longer);
+        }
+        for end in SHIFTED_ENDS {
+            let mut damaged = with_end(&file, record, end);
+            try_one("a line end too short or too long", &damaged);
+            damaged.resize(file.len(), b'9');
+            try_one("a line end too short or too long, made up for", &damaged);
+        }
+        for other in 1..=records {
+            for column in [1, 2, 30, 94] {
+                let fault = lined(&with_column(base, other, column, b'X'));
+                try_one("a wrong line end and a fault", &with_end(&fault, record, b"\n\r"));
+            }
+            let two = with_end(&with_end(&file, other, b"\r\r"), record, b"\n\n");
+            try_one("two wrong line ends", &two);
+        }
     }
 }
 
-/// Every field with values on both sides of its rules, with the controls as they were and with
-/// the controls brought along.
+/// Every field with values on both sides of its rules, with the controls as they were and, in both
+/// ways, with the controls brought along.
 fn every_field(tally: &mut Tally, base: &[u8]) {
     for record in 1..=base.len() / RECORD {
         let record_type = base[(record - 1) * RECORD];
@@ -144,7 +205,7 @@ fn every_field(tally: &mut Tally, base: &[u8]) {
             for value in field_values(record_type, field, now) {
                 let about = format!("record {record}, field {field}");
                 let file = with_field(base, record, field, &value);
-                both(tally, &about, &file);
+                in_way(tally, &about, Way::Plain, &file);
                 both(tally, &about, &resealed(&file));
             }
         }
@@ -187,6 +248,11 @@ fn fillers(tally: &mut Tally) {
             let mut changed = file.clone();
             changed.resize(kept * RECORD, b'9');
             both(tally, "fillers too few or too many", &changed);
+            let with_ends = lined(&changed);
+            for record in [records, kept.min(file.len() / RECORD), kept] {
+                let wrong = with_end(&with_ends, record, b"\n\r");
+                in_way(tally, "a wrong line end near the fillers", Way::Lined, &wrong);
+            }
             if kept > records {
                 for column in [1, 2, 47, RECORD] {
                     let wrong = with_column(&changed, kept, column, b'8');
@@ -248,23 +314,46 @@ fn damaged_files(tally: &mut Tally, random: &mut Random, cases: u64) {
                 damaged = resealed(&damaged);
             }
             both(tally, "a random file, damaged", &damaged);
+            let ends = random_end_damage(random, &lined(&damaged));
+            in_way(tally, "a random file, its line ends damaged", Way::Lined, &ends);
         }
     }
 }
 
-/// The largest file there is, one record more, and faults in its last block.
+/// The largest file there is, one record more, and faults in its last block, in both ways.
 fn biggest_files(tally: &mut Tally) {
     let shape = BigFile { records: MOST_RECORDS, entries_in_batch: 400_000, addendum_every: 3 };
-    let mut file = big_file(&shape);
-    both(tally, "a million records", &file);
-    let control = (MOST_RECORDS - 1) * RECORD;
-    for offset in [control - RECORD, control, control + 7, control + 93] {
-        let kept = std::mem::replace(&mut file[offset], b'X');
-        both(tally, "a million records, a fault near the end", &file);
-        file[offset] = kept;
+    let file = big_file(&shape);
+    let with_ends = lined(&file);
+    for (way, mut file) in [(Way::Plain, file), (Way::Lined, with_ends)] {
+        let record = way.record_length();
+        in_way(tally, "a million records", way, &file);
+        let control = (MOST_RECORDS - 1) * record;
+        for offset in [control - record, control, control + 7, control + record - 1] {
+            let kept = std::mem::replace(&mut file[offset], b'X');
+            in_way(tally, "a million records, a fault near the end", way, &file);
+            file[offset] = kept;
+        }
+        in_way(tally, "a million records less one", way, &file[..control]);
+        in_way(tally, "a million records less a byte", way, &file[..file.len() - 1]);
+        file.extend(vec![b'9'; record]);
+        in_way(tally, "a million records and one", way, &file);
+        let most = MOST_RECORDS * record;
+        in_way(tally, "a million records and a byte", way, &file[..most + 1]);
+        in_way(tally, "a million records and all but a byte", way, &file[..most + record - 1]);
+        in_other_way(tally, way, &file);
     }
-    both(tally, "a million records less one", &file[..control]);
-    both(tally, "a million records less a byte", &file[..file.len() - 1]);
-    file.extend([b'9'; RECORD]);
-    both(tally, "a million records and one", &file);
+}
+
+/// Lengths near the limits of both ways, put to the way that the file does not have: most are none
+/// of its lengths, and those that are end at the second record or the first line end.
+fn in_other_way(tally: &mut Tally, way: Way, file: &[u8]) {
+    let other = if way == Way::Plain { Way::Lined } else { Way::Plain };
+    let both = RECORD * LINED_RECORD / 2;
+    let near = |limit: usize| [limit / both * both, limit, limit / both * both + both];
+    for length in near(94_000_000).into_iter().chain(near(96_000_000)) {
+        if let Some(part) = file.get(..length) {
+            in_way(tally, "a length near the limit, in the other way", other, part);
+        }
+    }
 }

@@ -2,23 +2,26 @@
 //! against the independent implementation, in memory between guards, and against one another.
 
 use crate::tally::{Outcome, Tally, PATTERN};
-use crate::Run;
+use crate::{ways, Run};
 use ach::boundary::{ach_addendum, ach_alter, ach_check, ach_read, ach_write};
 use ach::{Refusal, ACCEPTANCE_LENGTH};
 use generate::damage::{random_damage, resealed, BORDER_BYTES};
+use generate::lines::{lined, random_end_damage};
 use generate::tables::{random_row_damage, shape_damage};
 use generate::{near_limit, plan, Plan, Random, RECORD};
+use independent::Way;
 use std::time::{Duration, Instant};
 
 pub fn compare(run: &Run, tally: &mut Tally) {
     let end = Instant::now() + Duration::from_secs(run.seconds);
     let mut random = Random::new(run.seed);
     while Instant::now() < end {
-        let bytes = input(&mut random);
-        for question in questions(&mut random, &bytes) {
-            ask(tally, question, &bytes);
+        let way = *random.pick(&Way::BOTH);
+        let bytes = input(&mut random, way);
+        for question in questions(&mut random, way, &bytes) {
+            ask(tally, way, question, &bytes);
         }
-        relations(tally, &mut random, &bytes);
+        relations(tally, &mut random, way, &bytes);
     }
 }
 
@@ -33,12 +36,12 @@ enum Question {
 }
 
 /// All five, with rooms and numbers around the edges.
-fn questions(random: &mut Random, bytes: &[u8]) -> [Question; 5] {
+fn questions(random: &mut Random, way: Way, bytes: &[u8]) -> [Question; 5] {
     let entry = entry(random, bytes);
     [
         Question::Check,
-        Question::Read { room: room(random, independent::read(bytes)) },
-        Question::Write { room: room(random, independent::write(bytes)) },
+        Question::Read { room: room(random, independent::read(way, bytes)) },
+        Question::Write { room: room(random, independent::write(way, bytes)) },
         Question::Alter { entry, amount: amount(random) },
         Question::Addendum { entry },
     ]
@@ -71,19 +74,27 @@ fn amount(random: &mut Random) -> u64 {
     }
 }
 
-/// A file or a table in order, one that was damaged, or bytes that were never either.
-fn input(random: &mut Random) -> Vec<u8> {
+/// A file or a table in order, one that was damaged, or bytes that were never either. Some files
+/// have the other way than the one that is asked.
+fn input(random: &mut Random, way: Way) -> Vec<u8> {
     let plan = any_plan(random);
+    let way = if random.one_in(20) { *random.pick(&Way::BOTH) } else { way };
+    let file = |file: Vec<u8>| ways::in_way(way, &file);
     match random.below(16) {
-        0 => noise(random),
-        1 => spliced(random, &plan.file()),
-        2 => flipped(random, &plan.file()),
+        0 => noise(random, way),
+        1 => spliced(random, way, &file(plan.file())),
+        2 => flipped(random, &file(plan.file())),
         3 => flipped(random, &plan.table()),
         4 => random.pick(&shape_damage(&plan.table())).clone(),
         5 | 6 => plan.table(),
         7 | 8 => random_row_damage(random, &plan.table()),
-        9..=11 => plan.file(),
-        _ => damaged(random, plan.file()),
+        9..=11 => file(plan.file()),
+        12 if way == Way::Lined => random_end_damage(random, &lined(&plan.file())),
+        13 if way == Way::Lined => {
+            let damaged = lined(&damaged(random, plan.file()));
+            random_end_damage(random, &damaged)
+        }
+        _ => file(damaged(random, plan.file())),
     }
 }
 
@@ -107,17 +118,18 @@ fn damaged(random: &mut Random, mut file: Vec<u8>) -> Vec<u8> {
 }
 
 /// Bytes at random, all of them or those on the borders, in any length or in whole records.
-fn noise(random: &mut Random) -> Vec<u8> {
-    let length = if random.one_in(2) { RECORD * random.below(21) } else { random.below(2_000) };
+fn noise(random: &mut Random, way: Way) -> Vec<u8> {
+    let record = way.record_length();
+    let length = if random.one_in(2) { record * random.below(21) } else { random.below(2_000) };
     let any = random.one_in(2);
     (0..length).map(|_| if any { random.byte() } else { *random.pick(&BORDER_BYTES) }).collect()
 }
 
 /// The front of one file and the back of another.
-fn spliced(random: &mut Random, file: &[u8]) -> Vec<u8> {
-    let other = plan(random, 3, 5).file();
+fn spliced(random: &mut Random, way: Way, file: &[u8]) -> Vec<u8> {
+    let other = ways::in_way(way, &plan(random, 3, 5).file());
     let (front, back) = (random.below(file.len() + 1), random.below(other.len() + 1));
-    let unit = if random.one_in(2) { RECORD } else { 1 };
+    let unit = if random.one_in(2) { way.record_length() } else { 1 };
     [&file[..front / unit * unit], &other[back / unit * unit..]].concat()
 }
 
@@ -167,13 +179,14 @@ const EMPTY: u8 = 0xA5;
 const NUMBERS: usize = ACCEPTANCE_LENGTH;
 
 /// Puts a question to both sides, twice: what lies around the lent memory must not matter.
-fn ask(tally: &mut Tally, question: Question, bytes: &[u8]) {
-    let about = format!("{question:?}");
-    let (answer, numbers, memory) = expected(question, bytes);
+fn ask(tally: &mut Tally, way: Way, question: Question, bytes: &[u8]) {
+    let about = format!("{way:?} {question:?}");
+    let (answer, numbers, memory) = expected(way, question, bytes);
     for guard in [b'9', 0x5A] {
+        let number = ways::number(way, tally.cases());
         let mut lent = Guarded::new(bytes, guard);
         let mut room = Guarded::new(&vec![EMPTY; room_of(question)], guard);
-        let (given, given_numbers) = put(question, &mut lent, &mut room);
+        let (given, given_numbers) = put(number, question, &mut lent, &mut room);
         let written = match question {
             Question::Alter { .. } => lent.bytes(),
             _ => room.bytes(),
@@ -194,7 +207,12 @@ fn room_of(question: Question) -> usize {
 }
 
 /// The boundary's answer and the numbers that it leaves.
-fn put(question: Question, lent: &mut Guarded, room: &mut Guarded) -> (u64, [u64; NUMBERS]) {
+fn put(
+    way: u64,
+    question: Question,
+    lent: &mut Guarded,
+    room: &mut Guarded,
+) -> (u64, [u64; NUMBERS]) {
     let (file, length) = (lent.pointer(), lent.bytes().len());
     let (space, size) = (room.pointer(), room.bytes().len());
     let mut numbers = [PATTERN; NUMBERS];
@@ -202,13 +220,13 @@ fn put(question: Question, lent: &mut Guarded, room: &mut Guarded) -> (u64, [u64
     // SAFETY: the pointers are to as many bytes and numbers as the calls are told, and apart.
     let answer = unsafe {
         match question {
-            Question::Check => ach_check(file, length, numbers.as_mut_ptr()),
-            Question::Read { .. } => ach_read(file, length, space, size, first),
-            Question::Write { .. } => ach_write(file, length, space, size, first),
-            Question::Addendum { entry } => ach_addendum(file, length, entry, first, second),
+            Question::Check => ach_check(way, file, length, numbers.as_mut_ptr()),
+            Question::Read { .. } => ach_read(way, file, length, space, size, first),
+            Question::Write { .. } => ach_write(way, file, length, space, size, first),
+            Question::Addendum { entry } => ach_addendum(way, file, length, entry, first, second),
             Question::Alter { entry, amount } => {
                 let mut difference = PATTERN as i64;
-                let answer = ach_alter(file, length, entry, amount, &mut difference);
+                let answer = ach_alter(way, file, length, entry, amount, &mut difference);
                 *first = difference as u64;
                 answer
             }
@@ -220,27 +238,27 @@ fn put(question: Question, lent: &mut Guarded, room: &mut Guarded) -> (u64, [u64
 type Expected = (u64, [u64; NUMBERS], Vec<u8>);
 
 /// What the independent implementation makes of the question.
-fn expected(question: Question, bytes: &[u8]) -> Expected {
+fn expected(way: Way, question: Question, bytes: &[u8]) -> Expected {
     let mut numbers = [PATTERN; NUMBERS];
     let mut memory = vec![EMPTY; room_of(question)];
     let outcome = match question {
-        Question::Check => independent::check(bytes).map(|held| {
+        Question::Check => independent::check(way, bytes).map(|held| {
             numbers = numbers_of(&held);
         }),
-        Question::Read { .. } => independent::read_into(bytes, &mut memory).map(|length| {
+        Question::Read { .. } => independent::read_into(way, bytes, &mut memory).map(|length| {
             numbers[0] = length as u64;
         }),
-        Question::Write { .. } => independent::write_into(bytes, &mut memory).map(|length| {
+        Question::Write { .. } => independent::write_into(way, bytes, &mut memory).map(|length| {
             numbers[0] = length as u64;
         }),
         Question::Alter { entry, amount } => {
             memory = bytes.to_vec();
-            independent::alter(&mut memory, entry, amount).map(|difference| {
+            independent::alter(way, &mut memory, entry, amount).map(|difference| {
                 numbers[0] = difference as u64;
             })
         }
         Question::Addendum { entry } => {
-            independent::addendum(bytes, entry).map(|(start, length)| {
+            independent::addendum(way, bytes, entry).map(|(start, length)| {
                 numbers[..2].copy_from_slice(&[start as u64, length as u64]);
             })
         }
@@ -256,41 +274,51 @@ fn numbers_of(held: &independent::Acceptance) -> [u64; NUMBERS] {
     numbers
 }
 
-/// What the functions say of the same bytes has to fit together.
-fn relations(tally: &mut Tally, random: &mut Random, bytes: &[u8]) {
-    match ach::check(bytes) {
+/// What the functions say of the same bytes has to fit together, and so has what they say of the
+/// same records in both ways.
+fn relations(tally: &mut Tally, random: &mut Random, asked: Way, bytes: &[u8]) {
+    let way = ways::of_library(asked);
+    let checked = ach::check(way, bytes);
+    match checked {
         Ok(_) => {
-            let again = ach::table_of(bytes).and_then(|table| ach::file_of(&table));
+            let again = ach::table_of(way, bytes).and_then(|table| ach::file_of(way, &table));
             tally.holds("read and written again", bytes, again.as_deref() == Ok(bytes));
             let (entry, amount) = (entry(random, bytes), amount(random));
-            tally.holds("altered", bytes, alteration_fits(bytes, entry, amount));
+            tally.holds("altered", bytes, alteration_fits(way, bytes, entry, amount));
         }
-        Err(refusal) => tally.holds("refused alike", bytes, refused_alike(bytes, refusal)),
+        Err(refusal) => tally.holds("refused alike", bytes, refused_alike(way, bytes, refusal)),
     }
-    if let Ok(file) = ach::file_of(bytes) {
-        let fits = ach::check(&file).is_ok() && ach::table_of(&file).as_deref() == Ok(bytes);
+    if asked == Way::Plain {
+        let twin = ach::check(ach::Way::Lined, &lined(bytes));
+        tally.holds("the same answer in both ways", bytes, twin == checked);
+    }
+    if let Ok(file) = ach::file_of(way, bytes) {
+        let fits =
+            ach::check(way, &file).is_ok() && ach::table_of(way, &file).as_deref() == Ok(bytes);
         tally.holds("written and read again", bytes, fits);
+        let [plain, twin] = ach::Way::BOTH.map(|way| ach::file_of(way, bytes));
+        tally.holds("the same records in both ways", bytes, plain.map(|file| lined(&file)) == twin);
     }
 }
 
-fn refused_alike(bytes: &[u8], refusal: Refusal) -> bool {
+fn refused_alike(way: ach::Way, bytes: &[u8], refusal: Refusal) -> bool {
     let mut lent = bytes.to_vec();
-    ach::table_of(bytes) == Err(refusal)
-        && ach::alter(&mut lent, 1, 1) == Err(refusal)
-        && ach::addendum(bytes, 1) == Err(refusal)
+    ach::table_of(way, bytes) == Err(refusal)
+        && ach::alter(way, &mut lent, 1, 1) == Err(refusal)
+        && ach::addendum(way, bytes, 1) == Err(refusal)
         && lent == bytes
 }
 
 /// Altered, a file is accepted, its totals differ by what was said, and it can be altered back.
-fn alteration_fits(bytes: &[u8], entry: u64, amount: u64) -> bool {
+fn alteration_fits(way: ach::Way, bytes: &[u8], entry: u64, amount: u64) -> bool {
     let mut file = bytes.to_vec();
-    let Ok(difference) = ach::alter(&mut file, entry, amount) else {
+    let Ok(difference) = ach::alter(way, &mut file, entry, amount) else {
         return file == bytes;
     };
-    let (Ok(before), Ok(after)) = (ach::check(bytes), ach::check(&file)) else {
+    let (Ok(before), Ok(after)) = (ach::check(way, bytes), ach::check(way, &file)) else {
         return false;
     };
     let money = |held: ach::Acceptance| held.credit as i64 + held.debit as i64;
-    let back = ach::alter(&mut file, entry, (amount as i64 - difference) as u64);
+    let back = ach::alter(way, &mut file, entry, (amount as i64 - difference) as u64);
     money(after) - money(before) == difference && back == Ok(-difference) && file == bytes
 }

@@ -1,6 +1,7 @@
 //! `differential check | readwrite | alter | fuzz SECONDS`: puts the same cases to the proved
 //! library and to the independent implementation, and ends with a line of how many there were and
-//! how many differed.
+//! how many differed. Files are put to them in both ways; the same records in both ways have to be
+//! answered alike.
 //!
 //! ACH_SEED chooses other random cases, ACH_CASES how many of them there are. A fuzz run without
 //! ACH_SEED takes another seed each time, and prints it.
@@ -10,6 +11,7 @@ mod check;
 mod fuzz;
 mod read_write;
 mod tally;
+mod ways;
 
 use std::process::ExitCode;
 use std::time::{SystemTime, UNIX_EPOCH};

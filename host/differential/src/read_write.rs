@@ -1,14 +1,15 @@
 //! Reading and writing: the same table or file in rooms of every size, and nothing else touched.
 
 use crate::tally::{Outcome, Tally, PATTERN};
-use crate::Run;
+use crate::{ways, Run};
 use ach::boundary::{ach_read, ach_write};
 use generate::damage::{random_damage, resealed};
+use generate::lines::{lined, random_end_damage, with_end, WRONG_ENDS};
 use generate::tables::{
     of_empty_batches, random_row_damage, shape_damage, with_empty_batch, with_last_entry_repeated,
 };
 use generate::{big_file, near_limit, plan, sample, Batch, BigFile, Plan, Random};
-use independent::Refusal;
+use independent::{Refusal, Way};
 
 const DEFAULT_CASES: u64 = 20_000;
 
@@ -16,8 +17,9 @@ const DEFAULT_CASES: u64 = 20_000;
 const PATTERN_BYTE: u8 = 0xA5;
 const NO_ROOM: Refusal = Refusal { number: 23, record: 0, field: 0 };
 
-/// The shape of both functions: input and its length, room and its length, the result's length.
-type Call = unsafe extern "C" fn(*const u8, usize, *mut u8, usize, *mut u64) -> u64;
+/// The shape of both functions: the way, input and its length, room and its length, the result's
+/// length.
+type Call = unsafe extern "C" fn(u64, *const u8, usize, *mut u8, usize, *mut u64) -> u64;
 
 pub fn compare(run: &Run, tally: &mut Tally) {
     let cases = run.cases.unwrap_or(DEFAULT_CASES);
@@ -29,6 +31,7 @@ pub fn compare(run: &Run, tally: &mut Tally) {
         damaged_shapes(tally, &base.table());
         every_byte(tally, &base.table());
     }
+    line_ends(tally);
     limits(tally);
     random_plans(tally, &mut random, cases);
     damaged_files(tally, &mut random, cases);
@@ -37,12 +40,29 @@ pub fn compare(run: &Run, tally: &mut Tally) {
     too_many_records(tally);
 }
 
+/// Reads a file without line ends in the first way, and its records with line ends in the second:
+/// the tables have to be the same.
 fn read(tally: &mut Tally, about: &str, file: &[u8]) {
-    in_all_rooms(tally, about, ach_read, file, &independent::read(file));
+    let (plain, twin) = (independent::read(Way::Plain, file), lined(file));
+    let with_ends = independent::read(Way::Lined, &twin);
+    in_all_rooms(tally, about, (ach_read, Way::Plain), file, &plain);
+    in_all_rooms(tally, about, (ach_read, Way::Lined), &twin, &with_ends);
+    tally.holds("the same table in both ways", file, plain == with_ends);
 }
 
+fn read_in_way(tally: &mut Tally, about: &str, way: Way, file: &[u8]) {
+    in_all_rooms(tally, about, (ach_read, way), file, &independent::read(way, file));
+}
+
+/// Writes the file of a table in both ways: the records have to be the same.
 fn write(tally: &mut Tally, about: &str, table: &[u8]) {
-    in_all_rooms(tally, about, ach_write, table, &independent::write(table));
+    let [plain, with_ends] = Way::BOTH.map(|way| {
+        let result = independent::write(way, table);
+        in_all_rooms(tally, about, (ach_write, way), table, &result);
+        result
+    });
+    let twins = plain.map(|file| lined(&file)) == with_ends;
+    tally.holds("the same records in both ways", table, twins);
 }
 
 /// Rooms of none, one too few, just enough, one more and many more bytes than the result needs;
@@ -50,7 +70,7 @@ fn write(tally: &mut Tally, about: &str, table: &[u8]) {
 fn in_all_rooms(
     tally: &mut Tally,
     about: &str,
-    call: Call,
+    call: (Call, Way),
     input: &[u8],
     result: &Result<Vec<u8>, Refusal>,
 ) {
@@ -61,6 +81,7 @@ fn in_all_rooms(
         }
         Err(_) => vec![0, 2 * input.len() + 2_000],
     };
+    let result = result.as_deref().map_err(|refusal| *refusal);
     for room in rooms {
         in_room(tally, about, call, input, result, room);
     }
@@ -69,15 +90,17 @@ fn in_all_rooms(
 fn in_room(
     tally: &mut Tally,
     about: &str,
-    call: Call,
+    (call, way): (Call, Way),
     input: &[u8],
-    result: &Result<Vec<u8>, Refusal>,
+    result: Result<&[u8], Refusal>,
     room: usize,
 ) {
     let mut lent = vec![PATTERN_BYTE; room];
     let mut length = PATTERN;
+    let number = ways::number(way, tally.cases());
     // SAFETY: both pointers come from slices of the lengths given.
-    let answer = unsafe { call(input.as_ptr(), input.len(), lent.as_mut_ptr(), room, &mut length) };
+    let answer =
+        unsafe { call(number, input.as_ptr(), input.len(), lent.as_mut_ptr(), room, &mut length) };
     let given = Outcome { answer, numbers: [length], memory: &lent };
 
     let mut memory = vec![PATTERN_BYTE; room];
@@ -87,26 +110,32 @@ fn in_room(
             Outcome { answer: 0, numbers: [bytes.len() as u64], memory: &memory }
         }
         Ok(_) => Outcome::refused(NO_ROOM, &memory),
-        Err(refusal) => Outcome::refused(*refusal, &memory),
+        Err(refusal) => Outcome::refused(refusal, &memory),
     };
     tally.compare(&format!("{about}, room {room}"), input, given, expected);
 }
 
 fn bad_inputs(tally: &mut Tally) {
     for (call, number) in [(ach_read as Call, 1), (ach_write as Call, 24)] {
-        let mut length = PATTERN;
-        // SAFETY: of no bytes none is read or written, so the pointers to them may be null.
-        let answer = unsafe { call(std::ptr::null(), 0, std::ptr::null_mut(), 0, &mut length) };
-        let given = Outcome { answer, numbers: [length], memory: &[] };
-        let refusal = Refusal { number, record: 0, field: 0 };
-        tally.compare("null pointers", b"", given, Outcome::refused(refusal, &[]));
+        for way in [0].into_iter().chain(ways::SECOND) {
+            let mut length = PATTERN;
+            let (input, room) = (std::ptr::null(), std::ptr::null_mut());
+            // SAFETY: of no bytes none is read or written, so the pointers to them may be null.
+            let answer = unsafe { call(way, input, 0, room, 0, &mut length) };
+            let given = Outcome { answer, numbers: [length], memory: &[] };
+            let refusal = Refusal { number, record: 0, field: 0 };
+            tally.compare("null pointers", b"", given, Outcome::refused(refusal, &[]));
+        }
     }
-    let (file, table) = (sample().file(), sample().table());
+    let table = sample().table();
     for length in 0..=table.len() {
         write(tally, "a table cut", &table[..length]);
     }
-    for length in 0..=file.len() {
-        read(tally, "a file cut", &file[..length]);
+    for way in Way::BOTH {
+        let file = ways::in_way(way, &sample().file());
+        for length in 0..=file.len() {
+            read_in_way(tally, "a file cut", way, &file[..length]);
+        }
     }
     for byte in 0..=255 {
         for length in [1, 6, 109, 470, 940] {
@@ -114,6 +143,18 @@ fn bad_inputs(tally: &mut Tally) {
             write(tally, "one byte throughout", &vec![byte; length]);
         }
     }
+}
+
+/// A file whose line ends are not all there gives no table.
+fn line_ends(tally: &mut Tally) {
+    let file = two_batches().lined_file();
+    for record in 1..=20 {
+        for end in WRONG_ENDS {
+            read_in_way(tally, "a wrong line end", Way::Lined, &with_end(&file, record, end));
+        }
+    }
+    read_in_way(tally, "line ends", Way::Plain, &file);
+    read_in_way(tally, "no line ends", Way::Lined, &two_batches().file());
 }
 
 fn two_batches() -> Plan {
@@ -180,6 +221,8 @@ fn damaged_files(tally: &mut Tally, random: &mut Random, cases: u64) {
             damaged = resealed(&damaged);
         }
         read(tally, "a random file, damaged", &damaged);
+        let ends = random_end_damage(random, &lined(&damaged));
+        read_in_way(tally, "a random file, its line ends damaged", Way::Lined, &ends);
     }
 }
 
@@ -193,19 +236,24 @@ fn damaged_tables(tally: &mut Tally, random: &mut Random, cases: u64) {
     }
 }
 
-/// A million records in one batch, both ways, in a room that is just large enough or just not.
+/// A million records in one batch, read and written, in a room that is just large enough or just
+/// not.
 fn biggest(tally: &mut Tally) {
     let shape = BigFile { records: 1_000_000, entries_in_batch: 1_000_000, addendum_every: 0 };
-    let file = big_file(&shape);
-    let table = independent::read(&file).expect("a million records are a file");
-    let longer = with_last_entry_repeated(&table, 1);
-    let about = "a million records";
-    for short in [1, 0] {
-        let room = table.len() - short;
-        in_room(tally, about, ach_read, &file, &Ok(table.clone()), room);
-        let room = file.len() - short;
-        in_room(tally, about, ach_write, &table, &Ok(file.clone()), room);
+    let plain = big_file(&shape);
+    let table = independent::read(Way::Plain, &plain).expect("a million records are a file");
+    let with_ends = lined(&plain);
+    for (way, file) in [(Way::Plain, &plain), (Way::Lined, &with_ends)] {
+        let about = "a million records";
+        in_room(tally, about, (ach_read, way), file, Ok(&table), table.len());
+        for short in [1, 0] {
+            let room = file.len() - short;
+            in_room(tally, about, (ach_write, way), &table, Ok(file), room);
+        }
     }
+    let room = table.len() - 1;
+    in_room(tally, "a million records", (ach_read, Way::Plain), &plain, Ok(&table), room);
+    let longer = with_last_entry_repeated(&table, 1);
     write(tally, "a million records and one", &longer);
 }
 

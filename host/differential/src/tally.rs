@@ -10,7 +10,7 @@ const MOST_REPORTS: u64 = 10;
 pub const PATTERN: u64 = 0x25A5_5A5A_C3C3_3C3C;
 
 /// What a call came to: its answer, and what the lent numbers and the lent memory hold afterwards.
-#[derive(PartialEq)]
+#[derive(Clone, PartialEq)]
 pub struct Outcome<'m, const N: usize> {
     pub answer: u64,
     pub numbers: [u64; N],

@@ -6,6 +6,7 @@
 
 pub mod columns;
 pub mod damage;
+pub mod lines;
 mod plan;
 mod random;
 mod shapes;
@@ -15,4 +16,5 @@ pub use plan::{is_credit, is_prenote, routing_check_digit, Batch, Builder, Entry
 pub use random::Random;
 pub use shapes::{big_file, near_limit, plan, sample, BigFile, CODES};
 
+/// How many columns a record has; without line ends, so many bytes as well.
 pub const RECORD: usize = 94;

@@ -1,5 +1,6 @@
 //! A file as the values it is made of, and the rendering of those values.
 
+use crate::lines::lined;
 use crate::RECORD;
 
 #[derive(Clone, Debug)]
@@ -61,6 +62,11 @@ impl Plan {
             builder.close(batch);
         }
         builder.finish()
+    }
+
+    /// The file with CR LF behind every record.
+    pub fn lined_file(&self) -> Vec<u8> {
+        lined(&self.file())
     }
 
     pub fn table(&self) -> Vec<u8> {

@@ -1,31 +1,32 @@
 //! Questions about one entry of a file: its addendum, and a new amount for it.
 
-use crate::check::{check, records_of, LARGEST_TOTAL};
+use crate::check::{check, LARGEST_TOTAL};
 use crate::code::{Code, Side};
 use crate::field::{value, Field};
 use crate::layout::*;
 use crate::outcome::{reason, Refusal};
+use crate::records::{Records, Way};
 
 /// Where an entry's addendum text lies in the file, as offset and length; (0, 0) if it has none.
-pub fn addendum(file: &[u8], entry: u64) -> Result<(usize, usize), Refusal> {
-    let index = find_entry(file, entry)?;
-    let records = records_of(file)?;
-    if entry::ADDENDUM.of(&records[index]) != b"1" {
+pub fn addendum(way: Way, file: &[u8], entry: u64) -> Result<(usize, usize), Refusal> {
+    let records = Records::of(way, file)?;
+    let index = find_entry(way, file, entry)?;
+    if entry::ADDENDUM.of(records.get(index)) != b"1" {
         return Ok((0, 0));
     }
     let text = addendum::TEXT;
-    let start = (index + 1) * RECORD_LENGTH + text.offset();
-    Ok((start, text.of(&records[index + 1]).len()))
+    let start = way.columns(index + 1).start + text.offset();
+    Ok((start, text.of(records.get(index + 1)).len()))
 }
 
 /// Gives an entry a new amount and brings the totals along; tells the new amount less the old.
-pub fn alter(file: &mut [u8], entry: u64, amount: u64) -> Result<i64, Refusal> {
-    let entry_index = find_entry(file, entry)?;
-    let (records, _) = file.as_chunks_mut::<RECORD_LENGTH>();
+pub fn alter(way: Way, file: &mut [u8], entry: u64, amount: u64) -> Result<i64, Refusal> {
+    let records = Records::of(way, file)?;
+    let entry_index = find_entry(way, file, entry)?;
     let batch_index = next_of_type(records, entry_index, b'8');
     let file_index = next_of_type(records, batch_index, b'9');
 
-    let record = &records[entry_index];
+    let record = records.get(entry_index);
     let code =
         Code::known(value(entry::CODE.of(record))).expect("a checked entry has a known code");
     if !code.may_carry(amount) {
@@ -37,7 +38,7 @@ pub fn alter(file: &mut [u8], entry: u64, amount: u64) -> Result<i64, Refusal> {
         Side::Credit => (batch_control::CREDIT, file_control::CREDIT),
     };
     let new_total = |index: usize, field: Field| {
-        let total = value(field.of(&records[index])) - old_amount + amount;
+        let total = value(field.of(records.get(index))) - old_amount + amount;
         if total > LARGEST_TOTAL {
             return Err(refusal(reason::SUM_TOO_LARGE, index, field));
         }
@@ -46,9 +47,14 @@ pub fn alter(file: &mut [u8], entry: u64, amount: u64) -> Result<i64, Refusal> {
     let batch_total = new_total(batch_index, batch_field)?;
     let file_total = new_total(file_index, file_field)?;
 
-    entry::AMOUNT.put_number(&mut records[entry_index], amount);
-    batch_field.put_number(&mut records[batch_index], batch_total);
-    file_field.put_number(&mut records[file_index], file_total);
+    for (index, field, number) in [
+        (entry_index, entry::AMOUNT, amount),
+        (batch_index, batch_field, batch_total),
+        (file_index, file_field, file_total),
+    ] {
+        let columns = &mut file[way.columns(index)];
+        field.put_number(columns.try_into().expect("a record has its columns"), number);
+    }
     Ok(amount as i64 - old_amount as i64)
 }
 
@@ -57,13 +63,13 @@ fn refusal(number: u8, index: usize, field: Field) -> Refusal {
 }
 
 /// The index of the record that holds an entry, in a file that passes the check.
-fn find_entry(file: &[u8], entry: u64) -> Result<usize, Refusal> {
-    let acceptance = check(file)?;
+fn find_entry(way: Way, file: &[u8], entry: u64) -> Result<usize, Refusal> {
+    let acceptance = check(way, file)?;
     if !(1..=acceptance.entries).contains(&entry) {
         return Err(Refusal::without_place(reason::NO_SUCH_ENTRY));
     }
     let entries_before = entry as usize - 1;
-    let index = records_of(file)?
+    let index = Records::of(way, file)?
         .iter()
         .enumerate()
         .filter(|(_, record)| record[0] == b'6')
@@ -72,7 +78,7 @@ fn find_entry(file: &[u8], entry: u64) -> Result<usize, Refusal> {
     Ok(index.expect("the check counted this entry"))
 }
 
-fn next_of_type(records: &[Record], from: usize, record_type: u8) -> usize {
-    let offset = records[from..].iter().position(|record| record[0] == record_type);
+fn next_of_type(records: Records, from: usize, record_type: u8) -> usize {
+    let offset = records.iter().skip(from).position(|record| record[0] == record_type);
     from + offset.expect("a checked file has its controls")
 }

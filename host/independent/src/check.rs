@@ -4,20 +4,22 @@ use crate::code::{Code, Side};
 use crate::field::{all, are_digits, check_digit, is_blank, value, Fault, Field};
 use crate::layout::*;
 use crate::outcome::{reason, Acceptance, Refusal};
+use crate::records::{Records, Way};
 
 pub const LARGEST_TOTAL: u64 = 999_999_999_999;
 const HASH_MODULUS: u64 = 10_000_000_000;
 
-/// Tells what an ACH file holds, or the first reason why it is none.
-pub fn check(file: &[u8]) -> Result<Acceptance, Refusal> {
-    let records = records_of(file)?;
+/// Tells what an ACH file of this way holds, or the first reason why it is none.
+pub fn check(way: Way, file: &[u8]) -> Result<Acceptance, Refusal> {
+    let records = Records::of(way, file)?;
     let mut checker = Checker::new();
     let mut allowed: &[u8] = b"1";
-    for (record, number) in records.iter().zip(1..) {
+    for ((record, ended), number) in records.with_ends().zip(1..) {
         if !allowed.contains(&record[0]) {
             return Err(refusal(reason::RECORD_TYPE, number, 1));
         }
         allowed = checker.record(number, record).map_err(|fault| fault.at(number))?;
+        require_end(ended, number)?;
         if record[0] == b'9' {
             check_fillers(records, number)?;
             return Ok(checker.acceptance);
@@ -26,25 +28,28 @@ pub fn check(file: &[u8]) -> Result<Acceptance, Refusal> {
     Err(data_end(records))
 }
 
-/// The file as records, if its length allows.
-pub fn records_of(file: &[u8]) -> Result<&[Record], Refusal> {
-    let (records, rest) = file.as_chunks();
-    if records.is_empty() || !rest.is_empty() || records.len() > MOST_RECORDS {
-        return Err(Refusal::without_place(reason::LENGTH));
+/// The line end is tried when all fields of its record are in order.
+fn require_end(ended: bool, record: u64) -> Result<(), Refusal> {
+    if ended {
+        Ok(())
+    } else {
+        Err(refusal(reason::LINE_END, record, 0))
     }
-    Ok(records)
 }
 
 /// Looks at what follows the file control, which is the record of the given number.
-fn check_fillers(records: &[Record], control: u64) -> Result<(), Refusal> {
+fn check_fillers(records: Records, control: u64) -> Result<(), Refusal> {
     let block_end = control.next_multiple_of(RECORDS_IN_BLOCK as u64);
+    let mut behind = records.with_ends().skip(control as usize);
     for number in control + 1..=block_end {
-        let record = records.get(number as usize - 1).ok_or_else(|| data_end(records))?;
+        let (record, ended) = behind.next().ok_or_else(|| data_end(records))?;
         if *record != FILLER {
             return Err(refusal(reason::FIXED_TEXT, number, 0));
         }
+        require_end(ended, number)?;
     }
-    if records.len() as u64 > block_end {
+    // Whatever stands behind the block is too much, its line end right or wrong.
+    if behind.next().is_some() {
         return Err(refusal(reason::RECORD_AFTER_BLOCK, block_end + 1, 0));
     }
     Ok(())
@@ -54,8 +59,8 @@ fn refusal(number: u8, record: u64, field: u8) -> Refusal {
     Refusal { number, record, field }
 }
 
-fn data_end(records: &[Record]) -> Refusal {
-    refusal(reason::DATA_END, records.len() as u64 + 1, 0)
+fn data_end(records: Records) -> Refusal {
+    refusal(reason::DATA_END, records.count() as u64 + 1, 0)
 }
 
 /// What the entries of a batch, or of the whole file, come to.

@@ -1,6 +1,6 @@
 //! Checking, reading, writing and altering ACH payment files, in plain Rust.
 //!
-//! Written from the scope paper alone. The proved library of Qalarimo ACH is tested against this
+//! Written from the scope paper and its change requests alone. The proved library of Qalarimo ACH is tested against this
 //! crate, and timed against it, so nothing here is taken from there.
 
 mod alter;
@@ -9,9 +9,11 @@ mod code;
 mod field;
 mod layout;
 mod outcome;
+mod records;
 mod table;
 
 pub use alter::{addendum, alter};
 pub use check::check;
 pub use outcome::{line, reason, Acceptance, Refusal};
+pub use records::Way;
 pub use table::{read, read_into, write, write_into};

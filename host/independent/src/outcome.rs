@@ -1,6 +1,6 @@
 //! What a question about a file can be answered with.
 
-/// The numbers a refusal is given, as the scope paper lists them.
+/// The numbers a refusal is given, as the scope paper and its requests list them.
 pub mod reason {
     pub const LENGTH: u8 = 1;
     pub const DATA_END: u8 = 2;
@@ -27,6 +27,7 @@ pub mod reason {
     pub const ROOM: u8 = 23;
     pub const TABLE_SHAPE: u8 = 24;
     pub const NO_SUCH_ENTRY: u8 = 25;
+    pub const LINE_END: u8 = 26;
 }
 
 /// Why something was refused, and where; record and field are 0 where there is no place to name.

@@ -1,10 +1,11 @@
 //! The pay table: the parts of a file that somebody chose, without what follows from them.
 
-use crate::check::{check, records_of};
+use crate::check::check;
 use crate::code::{Code, Side};
 use crate::field::{are_digits, put_digits, value, Field};
 use crate::layout::*;
 use crate::outcome::{reason, Acceptance, Refusal};
+use crate::records::{Records, Way};
 use std::ops::Range;
 
 const COUNT_LENGTH: usize = 6;
@@ -23,36 +24,36 @@ const BATCH_RIGHT: Range<usize> = 79..94;
 const ENTRY_PART: Range<usize> = 1..94;
 
 /// The pay table of a file.
-pub fn read(file: &[u8]) -> Result<Vec<u8>, Refusal> {
-    let acceptance = check(file)?;
+pub fn read(way: Way, file: &[u8]) -> Result<Vec<u8>, Refusal> {
+    let acceptance = check(way, file)?;
     let mut table = vec![0; table_length(&acceptance)];
-    fill_table(records_of(file)?, &acceptance, &mut table);
+    fill_table(Records::of(way, file)?, &acceptance, &mut table);
     Ok(table)
 }
 
 /// Writes the pay table of a file into the room lent, and tells its length.
-pub fn read_into(file: &[u8], room: &mut [u8]) -> Result<usize, Refusal> {
-    let acceptance = check(file)?;
+pub fn read_into(way: Way, file: &[u8], room: &mut [u8]) -> Result<usize, Refusal> {
+    let acceptance = check(way, file)?;
     let length = table_length(&acceptance);
     let table = room.get_mut(..length).ok_or(Refusal::without_place(reason::ROOM))?;
-    fill_table(records_of(file)?, &acceptance, table);
+    fill_table(Records::of(way, file)?, &acceptance, table);
     Ok(length)
 }
 
-/// The file that a pay table stands for.
-pub fn write(table: &[u8]) -> Result<Vec<u8>, Refusal> {
+/// The file of this way that a pay table stands for.
+pub fn write(way: Way, table: &[u8]) -> Result<Vec<u8>, Refusal> {
     let table = Table::parse(table).ok_or(Refusal::without_place(reason::TABLE_SHAPE))?;
     if table.records() > MOST_RECORDS {
         return Err(Refusal::without_place(reason::LENGTH));
     }
-    let file = table.form();
-    check(&file)?;
+    let file = table.form(way);
+    check(way, &file)?;
     Ok(file)
 }
 
 /// Writes the file that a pay table stands for into the room lent, and tells its length.
-pub fn write_into(table: &[u8], room: &mut [u8]) -> Result<usize, Refusal> {
-    let file = write(table)?;
+pub fn write_into(way: Way, table: &[u8], room: &mut [u8]) -> Result<usize, Refusal> {
+    let file = write(way, table)?;
     room.get_mut(..file.len()).ok_or(Refusal::without_place(reason::ROOM))?.copy_from_slice(&file);
     Ok(file.len())
 }
@@ -66,7 +67,7 @@ fn table_length(acceptance: &Acceptance) -> usize {
 }
 
 /// Fills a table of exactly the right length from records that pass the check.
-fn fill_table(records: &[Record], counts: &Acceptance, table: &mut [u8]) {
+fn fill_table(records: Records, counts: &Acceptance, table: &mut [u8]) {
     let mut rest = table;
     let [header_row] = fill_section::<HEADER_ROW>(&mut rest, 1) else {
         unreachable!("one row was asked for")
@@ -78,7 +79,7 @@ fn fill_table(records: &[Record], counts: &Acceptance, table: &mut [u8]) {
     let due = "the check counted the rows";
     let mut batch_row = &mut [0; BATCH_ROW];
     let mut entries_in_batch = 0;
-    for record in records {
+    for record in records.iter() {
         match record[0] {
             b'1' => join(header_row, &record[HEADER_LEFT], &record[HEADER_RIGHT]),
             b'5' => {
@@ -150,8 +151,8 @@ impl<'t> Table<'t> {
         records.next_multiple_of(RECORDS_IN_BLOCK)
     }
 
-    fn form(&self) -> Vec<u8> {
-        let mut former = Former::with_room_for(self.records());
+    fn form(&self, way: Way) -> Vec<u8> {
+        let mut former = Former::with_room_for(way, self.records());
         former.file_header(self.header);
         let mut entries = self.entries.iter();
         let mut addenda = self.addenda.iter();
@@ -199,6 +200,7 @@ struct Controls {
 
 /// Puts a file together, record by record.
 struct Former {
+    way: Way,
     file: Vec<u8>,
     batch_header: Record,
     entry: Record,
@@ -208,15 +210,21 @@ struct Former {
 }
 
 impl Former {
-    fn with_room_for(records: usize) -> Self {
+    fn with_room_for(way: Way, records: usize) -> Self {
         Former {
-            file: Vec::with_capacity(records * RECORD_LENGTH),
+            way,
+            file: Vec::with_capacity(records * way.record_length()),
             batch_header: [b' '; RECORD_LENGTH],
             entry: [b' '; RECORD_LENGTH],
             batches: 0,
             batch: Controls::default(),
             whole: Controls::default(),
         }
+    }
+
+    fn push(&mut self, record: &Record) {
+        self.file.extend_from_slice(record);
+        self.file.extend_from_slice(self.way.line_end());
     }
 
     fn file_header(&mut self, row: &[u8; HEADER_ROW]) {
@@ -228,7 +236,7 @@ impl Former {
         file_header::FORMAT.put(&mut record, b"1");
         record[HEADER_LEFT].copy_from_slice(left);
         record[HEADER_RIGHT].copy_from_slice(right);
-        self.file.extend_from_slice(&record);
+        self.push(&record);
     }
 
     fn batch_header(&mut self, columns: &[u8]) {
@@ -237,7 +245,7 @@ impl Former {
         record[BATCH_LEFT].copy_from_slice(left);
         batch_header::STATUS.put(&mut record, b"1");
         record[BATCH_RIGHT].copy_from_slice(right);
-        self.file.extend_from_slice(&record);
+        self.push(&record);
         self.batch_header = record;
         self.batches += 1;
         self.batch = Controls::default();
@@ -246,7 +254,7 @@ impl Former {
     fn entry(&mut self, row: &[u8; ENTRY_ROW]) {
         let mut record = blank_record(b'6');
         record[ENTRY_PART].copy_from_slice(row);
-        self.file.extend_from_slice(&record);
+        self.push(&record);
         self.entry = record;
         for controls in [&mut self.batch, &mut self.whole] {
             controls.add_entry(&record);
@@ -260,7 +268,7 @@ impl Former {
         addendum::SEQUENCE.put(&mut record, b"0001");
         let (_, trace) = entry::TRACE.of(&self.entry).split_at(8);
         addendum::ENTRY_TRACE.put(&mut record, trace);
-        self.file.extend_from_slice(&record);
+        self.push(&record);
         self.batch.count += 1;
         self.whole.count += 1;
     }
@@ -277,13 +285,13 @@ impl Former {
         COMPANY_ID.put(&mut record, batch_header::COMPANY_ID.of(header));
         ORIGINATOR.put(&mut record, batch_header::ORIGINATOR.of(header));
         BATCH_NUMBER.put(&mut record, batch_header::BATCH_NUMBER.of(header));
-        self.file.extend_from_slice(&record);
+        self.push(&record);
     }
 
     fn file_control(&mut self) {
         use file_control::*;
         let mut record = blank_record(b'9');
-        let record_number = self.file.len() / RECORD_LENGTH + 1;
+        let record_number = self.file.len() / self.way.record_length() + 1;
         let blocks = record_number.div_ceil(RECORDS_IN_BLOCK);
         BATCHES.put_number(&mut record, self.batches);
         BLOCKS.put_number(&mut record, blocks as u64);
@@ -291,9 +299,9 @@ impl Former {
         HASH.put_number(&mut record, self.whole.hash);
         DEBIT.put_number(&mut record, self.whole.debit);
         CREDIT.put_number(&mut record, self.whole.credit);
-        self.file.extend_from_slice(&record);
+        self.push(&record);
         for _ in record_number..blocks * RECORDS_IN_BLOCK {
-            self.file.extend_from_slice(&FILLER);
+            self.push(&FILLER);
         }
     }
 }

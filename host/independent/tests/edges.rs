@@ -2,10 +2,12 @@
 
 use generate::damage::{resealed, with_field};
 use generate::{near_limit, sample, Entry, Plan};
-use independent::{alter, check, write, Refusal};
+use independent::{alter, check, write, Refusal, Way};
 
 fn verdict(file: &[u8]) -> Result<(), (u8, u64, u8)> {
-    check(file).map(|_| ()).map_err(|Refusal { number, record, field }| (number, record, field))
+    check(Way::Plain, file)
+        .map(|_| ())
+        .map_err(|Refusal { number, record, field }| (number, record, field))
 }
 
 /// The sample with some entries in place of its own.
@@ -152,9 +154,9 @@ fn totals_at_the_limit() {
 #[test]
 fn the_same_limit_when_written() {
     let fits = near_limit(22, 999_999_999_900, 1);
-    assert_eq!(write(&fits.table()), Ok(fits.file()));
+    assert_eq!(write(Way::Plain, &fits.table()), Ok(fits.file()));
     let too_much = near_limit(22, 1_009_999_999_899, 1);
-    let refusal = write(&too_much.table()).unwrap_err();
+    let refusal = write(Way::Plain, &too_much.table()).unwrap_err();
     assert_eq!((refusal.number, refusal.record, refusal.field), (20, 104, 6));
 }
 
@@ -184,7 +186,7 @@ fn the_empty_input_and_the_first_record_alone() {
 fn altering_to_the_same_amount_changes_nothing() {
     let file = sample().file();
     let mut altered = file.clone();
-    assert_eq!(alter(&mut altered, 2, 2_550), Ok(0));
+    assert_eq!(alter(Way::Plain, &mut altered, 2, 2_550), Ok(0));
     assert_eq!(altered, file);
 }
 

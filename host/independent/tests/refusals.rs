@@ -5,10 +5,10 @@ use generate::damage::{
     without_record,
 };
 use generate::{sample, Batch};
-use independent::{check, Refusal};
+use independent::{check, Refusal, Way};
 
 fn refused(file: &[u8]) -> (u8, u64, u8) {
-    let Refusal { number, record, field } = check(file).expect_err("a refusal is due");
+    let Refusal { number, record, field } = check(Way::Plain, file).expect_err("a refusal is due");
     (number, record, field)
 }
 
@@ -137,13 +137,13 @@ fn batch_numbers_ascend_and_traces_start_anew() {
     let first = plan.batches[0].clone();
     let with_number = |number| Batch { number, ..first.clone() };
     plan.batches.push(with_number(5));
-    assert!(check(&plan.file()).is_ok());
+    assert!(check(Way::Plain, &plan.file()).is_ok());
     plan.batches.push(with_number(5));
     assert_eq!(refused(&plan.file()), (17, 12, 13));
     plan.batches[2].number = 4;
     assert_eq!(refused(&plan.file()), (17, 12, 13));
     plan.batches[2].number = 6;
-    assert!(check(&plan.file()).is_ok());
+    assert!(check(Way::Plain, &plan.file()).is_ok());
 }
 
 #[test]
@@ -151,7 +151,7 @@ fn nothing_follows_the_last_trace() {
     let mut plan = sample();
     plan.batches[0].entries[0].trace = 9_999_998;
     plan.batches[0].entries[1].trace = 9_999_999;
-    assert!(check(&plan.file()).is_ok());
+    assert!(check(Way::Plain, &plan.file()).is_ok());
     plan.batches[0].entries[0].trace = 9_999_999;
     plan.batches[0].entries[1].trace = 0;
     assert_eq!(refused(&plan.file()), (16, 4, 11));
@@ -162,7 +162,7 @@ fn every_byte(record: usize, column: usize, refusal: (u8, u64, u8), passes: impl
     for byte in 0..=255 {
         let file = with_column(&whole(), record, column, byte);
         if passes(byte) {
-            assert!(check(&file).is_ok(), "column {column}: {byte:#x}");
+            assert!(check(Way::Plain, &file).is_ok(), "column {column}: {byte:#x}");
         } else {
             assert_eq!(refused(&file), refusal, "column {column}: {byte:#x}");
         }

@@ -1,7 +1,7 @@
 //! The sample file and its table, and random files against the plans they come from.
 
 use generate::{is_credit, plan, sample, Plan, Random, CODES};
-use independent::{check, read, write, Acceptance};
+use independent::{check, read, write, Acceptance, Way};
 
 const WHOLE_FILE: &[u8] = include_bytes!("../../../samples/whole.ach");
 const WHOLE_TABLE: &[u8] = include_bytes!("../../../samples/whole.table");
@@ -13,14 +13,14 @@ fn the_sample_is_accepted() {
     let expected =
         Acceptance { batches: 1, entries: 2, addenda: 1, debit: 0, credit: 12_550, by_code };
     assert_eq!(WHOLE_FILE.len(), 940);
-    assert_eq!(check(WHOLE_FILE), Ok(expected));
+    assert_eq!(check(Way::Plain, WHOLE_FILE), Ok(expected));
 }
 
 #[test]
 fn the_sample_gives_its_table_and_the_table_the_sample() {
     assert_eq!(WHOLE_TABLE.len(), 470);
-    assert_eq!(read(WHOLE_FILE).as_deref(), Ok(WHOLE_TABLE));
-    assert_eq!(write(WHOLE_TABLE).as_deref(), Ok(WHOLE_FILE));
+    assert_eq!(read(Way::Plain, WHOLE_FILE).as_deref(), Ok(WHOLE_TABLE));
+    assert_eq!(write(Way::Plain, WHOLE_TABLE).as_deref(), Ok(WHOLE_FILE));
 }
 
 #[test]
@@ -35,9 +35,9 @@ fn random_plans_are_accepted_with_what_they_hold() {
     for _ in 0..500 {
         let plan = plan(&mut random, 5, 9);
         let (file, table) = (plan.file(), plan.table());
-        assert_eq!(check(&file), Ok(contents(&plan)));
-        assert_eq!(read(&file), Ok(table.clone()));
-        assert_eq!(write(&table), Ok(file));
+        assert_eq!(check(Way::Plain, &file), Ok(contents(&plan)));
+        assert_eq!(read(Way::Plain, &file), Ok(table.clone()));
+        assert_eq!(write(Way::Plain, &table), Ok(file));
     }
 }
 

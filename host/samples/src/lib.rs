@@ -1,8 +1,10 @@
 //! The files in the folder `samples`: accepted ones after the banks' documents and after the
-//! story, refused ones made from them. What has to be said of each stands in `samples/index`,
-//! which was written from the rules and by nobody's program.
+//! story, refused ones made from them. What has to be said of each stands in `samples/index`, and
+//! in `samples/index-lined` for files with CR LF behind every record; both were written from the
+//! rules and by nobody's program.
 
 mod accepted;
+mod lined;
 mod refused;
 
 use generate::{sample, Plan};
@@ -22,6 +24,7 @@ pub fn all() -> Vec<Sample> {
         samples.push(Sample { name: format!("{name}.table"), bytes: plan.table() });
     }
     samples.extend(refused::all());
+    samples.extend(lined::all());
     samples
 }
 
@@ -38,8 +41,17 @@ fn plans() -> Vec<(&'static str, Plan)> {
     ]
 }
 
-/// Every file that is checked, and the line that has to be printed for it.
+/// Every file without line ends that is checked, and the line that has to be printed for it.
 pub fn index() -> Vec<(&'static str, &'static str)> {
-    let lines = include_str!("../../../samples/index").lines();
+    entries_of(include_str!("../../../samples/index"))
+}
+
+/// Every file that is checked as one with CR LF behind every record, and the line due.
+pub fn lined_index() -> Vec<(&'static str, &'static str)> {
+    entries_of(include_str!("../../../samples/index-lined"))
+}
+
+fn entries_of(index: &'static str) -> Vec<(&'static str, &'static str)> {
+    let lines = index.lines();
     lines.map(|line| line.split_once(' ').expect("a name and a line")).collect()
 }

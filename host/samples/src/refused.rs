@@ -2,6 +2,7 @@
 
 use crate::{accepted, Sample};
 use generate::damage::{with_field, without_record};
+use generate::lines::lined;
 use generate::{sample, RECORD};
 
 pub fn all() -> Vec<Sample> {
@@ -9,7 +10,7 @@ pub fn all() -> Vec<Sample> {
     let with = |record, field, text: &str| with_field(&whole, record, field, text);
     let files = [
         ("empty", Vec::new()),
-        ("line-ends", with_line_ends(&whole)),
+        ("line-ends", lined(&whole)),
         ("header-alone", whole[..RECORD].to_vec()),
         ("fillers-missing", whole[..7 * RECORD].to_vec()),
         ("second-control", with_second_control(&whole)),
@@ -27,10 +28,6 @@ pub fn all() -> Vec<Sample> {
     ];
     let named = files.map(|(name, bytes)| Sample { name: format!("refused/{name}.ach"), bytes });
     named.into()
-}
-
-fn with_line_ends(file: &[u8]) -> Vec<u8> {
-    file.chunks(RECORD).flat_map(|record| [record, b"\r\n"].concat()).collect()
 }
 
 /// The first filler replaced by the file control once more.

@@ -1,5 +1,6 @@
 //! The folder holds what it should, and the independent implementation says what the index says.
 
+use independent::Way;
 use std::collections::BTreeSet;
 use std::fs;
 use std::path::Path;
@@ -27,25 +28,45 @@ fn the_files_are_as_they_were_made() {
 fn every_file_is_known() {
     let mut there = names_in("");
     there.extend(names_in("refused/"));
-    for other in ["README.md", "index", "refused"] {
+    for other in ["README.md", "index", "index-lined", "refused"] {
         assert!(there.remove(other), "{other}");
     }
     let made: BTreeSet<String> = samples::all().into_iter().map(|sample| sample.name).collect();
     assert_eq!(there, made);
     let checked: BTreeSet<String> =
         made.into_iter().filter(|name| name.ends_with(".ach")).collect();
-    let listed: BTreeSet<String> =
-        samples::index().into_iter().map(|(name, _)| name.to_string()).collect();
-    assert_eq!(checked, listed);
+    let mut listed: Vec<String> =
+        indexes().into_iter().map(|(_, name, _)| name.to_string()).collect();
+    listed.sort();
+    assert_eq!(checked.into_iter().collect::<Vec<String>>(), listed);
+}
+
+/// Both indexes: the way of a file, its name, and its line.
+fn indexes() -> Vec<(Way, &'static str, &'static str)> {
+    let plain = samples::index().into_iter().map(|(name, line)| (Way::Plain, name, line));
+    let lined = samples::lined_index().into_iter().map(|(name, line)| (Way::Lined, name, line));
+    plain.chain(lined).collect()
 }
 
 #[test]
 fn every_file_has_its_line() {
-    for (name, line) in samples::index() {
-        let said = independent::line(&independent::check(&content(name)));
+    for (way, name, line) in indexes() {
+        let said = independent::line(&independent::check(way, &content(name)));
         assert_eq!(said, line, "{name}");
+        assert_eq!(way == Way::Lined, name.ends_with("-lined.ach"), "{name}");
         assert_eq!(line.starts_with("NO "), name.starts_with("refused/"), "{name}");
     }
+}
+
+/// The same records as in `whole`, two bytes more for each; in the other way it is refused.
+#[test]
+fn the_lined_sample_is_the_whole_one_with_line_ends() {
+    let (file, whole) = (content("whole-lined.ach"), content("whole.ach"));
+    assert_eq!((file.len(), whole.len()), (960, 940));
+    for (line, record) in file.chunks(96).zip(whole.chunks(94)) {
+        assert_eq!((&line[..94], &line[94..]), (record, b"\r\n".as_slice()));
+    }
+    assert_eq!(file, content("refused/line-ends.ach"));
 }
 
 fn entries(file: &[u8]) -> Vec<&[u8]> {

@@ -4,9 +4,11 @@
 //! implementation of the rules is asked. A test compares the lines with the independent one.
 
 mod fields;
+mod lines;
 mod structure;
 mod values;
 
+use generate::lines::lined as with_line_ends;
 use generate::{is_credit, Plan};
 use std::collections::BTreeSet;
 
@@ -21,12 +23,26 @@ pub struct Vector {
     pub line: String,
 }
 
-/// All vectors, each file once.
+/// All vectors of files without line ends, each file once.
 pub fn all() -> Vec<Vector> {
     let mut collection = Collection::default();
     structure::collect(&mut collection);
     fields::collect(&mut collection);
     values::collect(&mut collection);
+    for Vector { about, file, .. } in &collection.vectors {
+        assert!(file.len() <= LONGEST, "{about}: too long to be looked at");
+    }
+    collection.vectors
+}
+
+/// All vectors of files with CR LF behind every record, which the check program does not take:
+/// those of the line ends, and the twins of all others, whose lines are the same.
+pub fn lined() -> Vec<Vector> {
+    let mut collection = Collection::default();
+    lines::collect(&mut collection);
+    for Vector { about, file, line } in all() {
+        collection.add(&format!("with line ends: {about}"), with_line_ends(&file), line);
+    }
     collection.vectors
 }
 
@@ -52,7 +68,6 @@ impl Collection {
     }
 
     fn add(&mut self, about: &str, file: Vec<u8>, line: String) {
-        assert!(file.len() <= LONGEST, "{about}: too long to be looked at");
         if self.seen.insert(file.clone()) {
             let about = about.to_string();
             self.vectors.push(Vector { about, file, line });

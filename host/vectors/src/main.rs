@@ -1,16 +1,24 @@
 //! `vectors DIRECTORY`: writes every vector to a file of its own, v001, v002 .., and beside them
-//! `names`, `expected` and `about`, which have a line for each in the same order.
+//! `names`, `expected` and `about`, which have a line for each in the same order. With `lined`
+//! behind the directory, the files are those with CR LF behind every record.
 
 use std::fmt::Write;
 use std::path::Path;
 use std::{fs, io};
+use vectors::Vector;
 
 fn main() {
-    let Some(directory) = std::env::args_os().nth(1) else {
-        eprintln!("usage: vectors DIRECTORY");
-        std::process::exit(2);
+    let arguments: Vec<String> = std::env::args().skip(1).collect();
+    let arguments: Vec<&str> = arguments.iter().map(String::as_str).collect();
+    let (directory, vectors) = match arguments[..] {
+        [directory] => (directory, vectors::all()),
+        [directory, "lined"] => (directory, vectors::lined()),
+        _ => {
+            eprintln!("usage: vectors DIRECTORY [lined]");
+            std::process::exit(2);
+        }
     };
-    match write_all(Path::new(&directory)) {
+    match write_all(Path::new(directory), &vectors) {
         Ok(count) => println!("{count} vectors"),
         Err(error) => {
             eprintln!("vectors: {error}");
@@ -19,8 +27,7 @@ fn main() {
     }
 }
 
-fn write_all(directory: &Path) -> io::Result<usize> {
-    let vectors = vectors::all();
+fn write_all(directory: &Path, vectors: &[Vector]) -> io::Result<usize> {
     let (mut names, mut expected, mut about) = (String::new(), String::new(), String::new());
     fs::create_dir_all(directory)?;
     for (vector, number) in vectors.iter().zip(1..) {

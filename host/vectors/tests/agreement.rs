@@ -1,7 +1,8 @@
 //! The lines stated with the vectors against the independent implementation, and the vectors
 //! against the list of what they have to show.
 
-use independent::{check, line};
+use generate::lines::LINED_RECORD;
+use independent::{check, line, Refusal, Way};
 use std::collections::BTreeSet;
 
 /// A field and the numbers that it can be refused with.
@@ -91,7 +92,38 @@ const REFUSALS: [(u8, &[Refusals]); 6] = [
 #[test]
 fn the_independent_implementation_agrees() {
     for vector in vectors::all() {
-        assert_eq!(line(&check(&vector.file)), vector.line, "{}", vector.about);
+        assert_eq!(line(&check(Way::Plain, &vector.file)), vector.line, "{}", vector.about);
+    }
+    for vector in vectors::lined() {
+        assert_eq!(line(&check(Way::Lined, &vector.file)), vector.line, "{}", vector.about);
+    }
+}
+
+/// A line end is refused behind every record type and behind fillers, the last one too.
+#[test]
+fn the_number_of_line_ends_is_shown() {
+    let mut types = BTreeSet::new();
+    let mut at_end = 0;
+    for vector in vectors::lined() {
+        if let Err(Refusal { number: 26, record, field: 0 }) = check(Way::Lined, &vector.file) {
+            let start = (record as usize - 1) * LINED_RECORD;
+            types.insert(vector.file[start..start + 2].to_vec());
+            at_end += usize::from(start + LINED_RECORD == vector.file.len());
+        }
+    }
+    let first_columns: BTreeSet<u8> = types.iter().map(|start| start[0]).collect();
+    assert_eq!(first_columns, BTreeSet::from(*b"156789"));
+    assert!(types.contains(b"99".as_slice()) && types.contains(b"90".as_slice()));
+    assert!(at_end > 0);
+}
+
+#[test]
+fn every_vector_has_its_twin() {
+    let lined = vectors::lined();
+    for vector in vectors::all() {
+        let file = generate::lines::lined(&vector.file);
+        let twin = lined.iter().find(|twin| twin.file == file);
+        assert_eq!(twin.map(|twin| &twin.line), Some(&vector.line), "{}", vector.about);
     }
 }
 
@@ -99,7 +131,7 @@ fn the_independent_implementation_agrees() {
 fn every_number_of_every_field_is_shown() {
     let shown: BTreeSet<(u8, u8, u8)> = vectors::all()
         .iter()
-        .filter_map(|vector| Some((vector, check(&vector.file).err()?)))
+        .filter_map(|vector| Some((vector, check(Way::Plain, &vector.file).err()?)))
         .filter(|(_, refusal)| refusal.field > 1)
         .map(|(vector, refusal)| {
             let record_type = vector.file[(refusal.record as usize - 1) * 94];
@@ -126,6 +158,7 @@ fn the_numbers_of_structure_are_shown() {
 
 #[test]
 fn the_vectors_are_few_enough_to_be_numbered() {
-    let count = vectors::all().len();
-    assert!(count < 1_000, "{count}");
+    for count in [vectors::all().len(), vectors::lined().len()] {
+        assert!(count < 1_000, "{count}");
+    }
 }

@@ -9,6 +9,7 @@ use std::process::{Command, Output, Stdio};
 use std::sync::atomic::{AtomicU32, Ordering};
 
 pub const WHOLE: &[u8] = include_bytes!("../../../../samples/whole.ach");
+pub const WHOLE_LINED: &[u8] = include_bytes!("../../../../samples/whole-lined.ach");
 pub const WHOLE_TABLE: &[u8] = include_bytes!("../../../../samples/whole.table");
 
 /// A folder that is removed with all that is in it.
