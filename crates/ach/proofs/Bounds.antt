@@ -37,7 +37,7 @@ use Rattle.view.specs.Table.{shaped, formed, tableOf}
 use Rattle.view.specs.Outcome.{Spot, refusal, demand, andThen, room, made, readOf, writeOf, entryAt, exists, spotOf, entryNumber, batchControlNumber, fileControlNumber, amend, within, limits, alterAnswer, altered, alterOf, addendumAnswer}
 use Rattle.view.proofs.Bridge.{accepted-view}
 use Rattle.view.proofs.BridgeWalk.{carry}
-use Rattle.altering.proofs.Places.{in-order}
+use Rattle.finding.proofs.Places.{in-order}
 use Rattle.layout.specs.declared.Way.{Way}
 use Rattle.layout.specs.declared.Checked.{Checked}
 

@@ -18,7 +18,7 @@ use Rattle.layout.specs.declared.Made.{Made}
 use Rattle.layout.specs.declared.Altered.{Altered}
 use Rattle.layout.specs.Fields.{part, entry, batchControl, fileControl}
 use Rattle.layout.specs.Paper.{paperOf}
-use Rattle.altering.specs.declared.AskedSpan.{AskedSpan}
+use Rattle.finding.specs.declared.AskedSpan.{AskedSpan}
 use Rattle.records.specs.Tally.{start}
 use Rattle.records.specs.Run.{lengthFits, rawRecords, columnsIn, pieceOf, checkedOf}
 use Rattle.view.specs.View.{View, sumOver, debitOf, creditOf, amountOf, entriesOf, fileControlRecord, recordsOf, viewOf}
@@ -32,7 +32,7 @@ use Rattle.view.proofs.Bridge.{FileOf, accepted-exactly, only-view}
 use Rattle.view.proofs.Own.{Told, own-entries, own-controls, own-records, own-table}
 use Rattle.view.proofs.RoundTrips.{read-done, write-done, read-write, write-read}
 use Rattle.view.proofs.Alter.{alter-exactly, alter-refused, alter-leaves, alter-accepted, alter-table, alter-length, alter-bytes, alter-difference, alter-same, may-put, alter-step, run-table, run-file, run-refused}
-use Rattle.altering.proofs.Addenda.{granted-there, part-refused, handed}
+use Rattle.finding.proofs.Addenda.{granted-there, part-refused, handed}
 use Rattle.ach.specs.Contracts.{Checks, Reads, Writes, Alters, HandsOut, Explains, Spans, Run}
 use Rattle.ach.proofs.Bounds.{number-range}
 use Rattle.ach.proofs.First.{First, refused-first}

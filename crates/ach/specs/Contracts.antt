@@ -9,7 +9,7 @@ use Rattle.layout.specs.declared.Checked.{Checked}
 use Rattle.layout.specs.declared.Made.{Made}
 use Rattle.layout.specs.declared.Altered.{Altered}
 use Rattle.layout.specs.declared.Way.{Way}
-use Rattle.altering.specs.declared.AskedSpan.{AskedSpan}
+use Rattle.finding.specs.declared.AskedSpan.{AskedSpan}
 use Rattle.records.specs.Run.{checkedOf}
 use Rattle.view.specs.Outcome.{readOf, writeOf, alterOf, addendumAnswer, addendumOf}
 

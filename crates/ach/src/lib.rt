@@ -39,19 +39,19 @@ pub fn alter(way: Way, file: &mut [u8], entry: EntryNo, amount: u64) -> Altered
 pub fn addendum(way: Way, file: &[u8], entry: EntryNo) -> &[u8]
     ensures { λ r. ⌜ HandsOut way (now (file .entry)) (entry .0) (now r) ⌝ }
 {
-    altering::addendum(way, file, entry)
+    finding::addendum(way, file, entry)
 }
 
 // The second question, of the same file and number: why there is no addendum.
 pub fn addendum_answer(way: Way, file: &[u8], entry: EntryNo) -> Answer
     ensures { λ r. ⌜ Explains way (now (file .entry)) (entry .0) r ⌝ }
 {
-    altering::addendum_answer(way, file, entry)
+    finding::addendum_answer(way, file, entry)
 }
 
 // The answer and where the addendum stands in the file, for callers that cannot be handed a part of it.
-pub fn asked_span(way: Way, file: &[u8], entry: EntryNo) -> altering::AskedSpan
+pub fn asked_span(way: Way, file: &[u8], entry: EntryNo) -> finding::AskedSpan
     ensures { λ r. ⌜ Spans way (now (file .entry)) (entry .0) r ⌝ }
 {
-    altering::asked_span(way, file, entry)
+    finding::asked_span(way, file, entry)
 }

@@ -28,14 +28,14 @@ use Rattle.view.proofs.Amend.{spot-sized, batch-moved, file-moved, debit-moved,
 use Rattle.view.proofs.AmendFile.{file-amended-debit, file-amended-credit}
 use Rattle.view.proofs.Bridge.{accepted-view}
 use Rattle.view.proofs.Own.{own-entries}
-use Rattle.altering.specs.declared.find.Places.{Places}
+use Rattle.finding.specs.declared.find.Places.{Places}
 use Rattle.altering.specs.declared.side.Side.{Side}
 use Rattle.layout.specs.declared.Way.{Way}
 use Rattle.layout.specs.Ways.{recordBytes}
-use Rattle.altering.specs.There.{There, EntryAt, Found}
+use Rattle.finding.specs.There.{There, EntryAt, Found}
 use Rattle.altering.specs.Side.{debitSide, creditSide, batchTotal, sideAnswer, sidePut, sideOutcome, Ordered, Ready}
-use Rattle.altering.proofs.Places.{batch-part}
-use Rattle.altering.proofs.Accepted.{entry-text, found-entry, total-text, few-records}
+use Rattle.finding.proofs.Places.{batch-part}
+use Rattle.finding.proofs.Accepted.{entry-text, found-entry, total-text, few-records}
 use Rattle.altering.proofs.Exchange.{Comes, comes-refused}
 
 -- ---- the answer

@@ -11,7 +11,7 @@ use Rattle.layout.specs.declared.Way.{Way}
 use Rattle.layout.specs.declared.Altered.{Altered}
 use Rattle.layout.specs.declared.Refusal.{Refusal}
 use Rattle.view.specs.Outcome.{Outcome, altered}
-use Rattle.altering.specs.declared.find.Places.{Places}
+use Rattle.finding.specs.declared.find.Places.{Places}
 use Rattle.altering.specs.declared.side.Side.{Side}
 use Rattle.altering.specs.Side.{batchTotal, sideAnswer, sidePut, sideOutcome, Ordered}
 use Rattle.layout.specs.Ways.{recordBytes}

@@ -1,8 +1,3 @@
-pub mod Parts
-pub mod Walk
-pub mod Places
-pub mod Accepted
-pub mod Addenda
 pub mod Signed
 pub mod Exchange
 pub mod Altering

@@ -1,4 +1,1 @@
-pub mod Find
-pub mod There
-pub mod Asked
 pub mod Side

@@ -12,7 +12,7 @@ use Rattle.layout.specs.declared.Altered.{Altered}
 use Rattle.layout.specs.Fields.{noRow, batchControl, fileControl}
 use Rattle.rules.specs.Field.{totalLimit}
 use Rattle.view.specs.Outcome.{Outcome, refusal, demand, altered}
-use Rattle.altering.specs.declared.find.Places.{Places}
+use Rattle.finding.specs.declared.find.Places.{Places}
 use Rattle.altering.specs.declared.side.Side.{Side}
 use Rattle.layout.specs.declared.Way.{Way}
 use Rattle.layout.specs.Ways.{recordBytes}

@@ -1,109 +1,18 @@
-// One amount altered in place, and an entry's addendum as a part of the file itself.
+// One amount altered in place.
+use finding::find;
 use kinds::Code;
 use kinds::codes;
 use layout::Altered;
 use layout::Answer;
-use layout::Checked;
 use layout::EntryNo;
 use layout::Fault;
-use layout::RecordNo;
-use layout::Refusal;
 use layout::Way;
 ghost use mathlib.Core.Path.{_≡_};
-ghost use lib.ListN.{take, drop};
-ghost use Rattle.view.specs.Outcome.{refusal, addendumAnswer, addendumOf, alterOf};
+ghost use Rattle.view.specs.Outcome.{alterOf};
 ghost use Rattle.records.specs.Run.{checkedOf};
-ghost use Rattle.altering.specs.Asked.{askedOf};
-ghost use Rattle.altering.specs.There.{There};
+ghost use Rattle.finding.specs.There.{There};
 
-mod find;
 mod side;
-
-// The answer to a question for an addendum, and the part of the file that holds it: where it starts, and how long it is.
-pub struct AskedSpan {
-    pub answer: Answer,
-    pub from: usize,
-    pub size: usize,
-}
-
-fn refused(fault: Fault, number: u64, k: u64) -> Answer
-    ensures { λ r. ⌜ r ≡ refusal fault number k ⌝ }
-{
-    Answer::Refused(Refusal {
-        fault,
-        record: RecordNo(number),
-        field: k,
-    })
-}
-
-// The file's refusals come first, then an entry number that it has not.
-fn asked(checked: Checked, k: u64) -> Answer
-    ensures { λ r. ⌜ r ≡ askedOf checked k ⌝ }
-{
-    let answer = checked.answer;
-    match answer {
-        Answer::Granted => {
-            if k < 1 {
-                return refused(Fault::NoEntry, 0, 0);
-            }
-            if checked.entries < k {
-                return refused(Fault::NoEntry, 0, 0);
-            }
-            Answer::Granted
-        }
-        Answer::Refused(r) => Answer::Refused(r),
-    }
-}
-
-// Why there is no addendum to hand back, if the question itself is refused.
-pub fn addendum_answer(way: Way, file: &[u8], entry: EntryNo) -> Answer
-    ensures { λ r. ⌜ r ≡ addendumAnswer way (now (file .entry)) (entry .0) ⌝ }
-{
-    let k = entry.0;
-    asked(accept::check(way, file), k)
-}
-
-// Answer and place in one, for callers that cannot take a part of a slice: the file is checked once.
-pub fn asked_span(way: Way, file: &[u8], entry: EntryNo) -> AskedSpan
-    ensures { λ r. ⌜ (r .answer ≡ addendumAnswer way (now (file .entry)) (entry .0)) × (r .from ≡ addendumOf way (now (file .entry)) (entry .0) .from) × (r .size ≡ addendumOf way (now (file .entry)) (entry .0) .size) ⌝ }
-{
-    let k = entry.0;
-    let answer = addendum_answer(way, file, entry);
-    match answer {
-        Answer::Granted => {
-            let wide = layout::record_bytes(way);
-            let at = wide * find::entry_at(way, file, k);
-            // column 79 says whether a record 7 follows
-            if file[at + 78] != 49 {
-                return AskedSpan {
-                    answer: Answer::Granted,
-                    from: 0,
-                    size: 0,
-                };
-            }
-            AskedSpan {
-                answer: Answer::Granted,
-                from: at + wide + 3,
-                size: 80,
-            }
-        }
-        Answer::Refused(r) => AskedSpan {
-            answer: Answer::Refused(r),
-            from: 0,
-            size: 0,
-        },
-    }
-}
-
-// An entry's addendum, columns 4-83 of the lent file itself; the empty part at its start where there is none.
-pub fn addendum(way: Way, file: &[u8], entry: EntryNo) -> &[u8]
-    ensures { λ r. ⌜ now r ≡ take (addendumOf way (now (file .entry)) (entry .0) .size) (drop (addendumOf way (now (file .entry)) (entry .0) .from) (now (file .entry))) ⌝ }
-{
-    let span = asked_span(way, file, entry);
-    let from = span.from;
-    let end = from + span.size;
-    &file[from..end]
-}
 
 // The amount of an entry that there is; debit and credit are the file's totals.
 fn alter_there(way: Way, file: &mut [u8], k: u64, amount: u64, debit: u64, credit: u64) -> Altered
@@ -117,14 +26,14 @@ fn alter_there(way: Way, file: &mut [u8], k: u64, amount: u64, debit: u64, credi
     let old = said.amount;
     if !codes::carries(code, amount) {
         return Altered {
-            answer: refused(Fault::Amount, at as u64 + 1, 6),
+            answer: finding::refused(Fault::Amount, at as u64 + 1, 6),
             difference: 0,
         };
     }
     match code {
         // carries no amount, so it does not come here
         Code::Unknown => Altered {
-            answer: refused(Fault::Amount, at as u64 + 1, 6),
+            answer: finding::refused(Fault::Amount, at as u64 + 1, 6),
             difference: 0,
         },
         Code::Credit(_) => {
@@ -140,7 +49,7 @@ pub fn alter(way: Way, file: &mut [u8], entry: EntryNo, amount: u64) -> Altered
 {
     let k = entry.0;
     let checked = accept::check(way, file);
-    let answer = asked(checked, k);
+    let answer = finding::asked(checked, k);
     match answer {
         Answer::Granted => { alter_there(way, file, k, amount, checked.debit, checked.credit) }
         Answer::Refused(r) => Altered {

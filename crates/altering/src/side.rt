@@ -1,5 +1,5 @@
 // The amount of an entry, and the totals of the side that it is on: read, tried against the limit, and written.
-use crate::find::Places;
+use finding::find::Places;
 use kinds::Code;
 use kinds::codes;
 use layout::Altered;
@@ -86,10 +86,10 @@ fn limits(places: Places, side: Side, batch: u64, whole: u64) -> Answer
     ensures { λ r. ⌜ r ≡ sideAnswer places side batch whole ⌝ }
 {
     if LIMIT < batch {
-        return crate::refused(Fault::Limit, places.control as u64 + 1, side.batchfield);
+        return finding::refused(Fault::Limit, places.control as u64 + 1, side.batchfield);
     }
     if LIMIT < whole {
-        return crate::refused(Fault::Limit, places.last as u64 + 1, side.filefield);
+        return finding::refused(Fault::Limit, places.last as u64 + 1, side.filefield);
     }
     Answer::Granted
 }

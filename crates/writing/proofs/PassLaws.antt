@@ -36,9 +36,9 @@ use Rattle.view.proofs.BridgeSums.{batchesRecords, afterBody, file-control-same
 use Rattle.view.proofs.BridgeSound.{refused-not}
 use Rattle.view.proofs.Bridge.{checked-joined}
 use Rattle.writing.specs.declared.Cursor.{Cursor}
-use Rattle.writing.specs.Sections.{sizeBy}
+use Rattle.forming.specs.Sections.{sizeBy}
 use Rattle.writing.specs.Forming.{entriesAhead, textsAhead, Inside, formOf, pastOf, firstOf}
-use Rattle.writing.proofs.ShapeLaws.{batch-rows-at, entry-rows-at, addendum-rows-at}
+use Rattle.forming.proofs.ShapeLaws.{batch-rows-at, entry-rows-at, addendum-rows-at}
 use Rattle.writing.proofs.WalkLaws.{entriesBy, later, between, behindBatches, todoAt, todo, turn}
 use Rattle.layout.specs.declared.Way.{Way}
 use Rattle.layout.specs.Ways.{endOf, recordBytes}

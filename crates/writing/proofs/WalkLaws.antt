@@ -30,9 +30,10 @@ use Rattle.view.proofs.Lists.{by-lt}
 use Rattle.view.proofs.BridgeSums.{afterAddenda, afterEntry, afterEntries, afterBatch, afterBatches, entriesRecords, batchesRecords, control-same, fillers-more}
 use Rattle.view.proofs.BridgeWalk.{at}
 use Rattle.writing.specs.declared.Cursor.{Cursor}
-use Rattle.writing.specs.Sections.{countAt}
-use Rattle.writing.specs.Forming.{batchRows, entriesAhead, entryRows, textsAhead, owed, idle, Inside, batchControlFrom, fileControlFrom, fileFrom, batchFrom, entryFrom, addendumFrom, batchAt, entryAt, lastAt, textAt, formAt, formOf, pastOf}
-use Rattle.writing.proofs.ShapeLaws.{rows-first, rows-none, sum-first, entries-in}
+use Rattle.forming.specs.Sections.{countAt}
+use Rattle.forming.specs.Forms.{batchControlFrom, fileControlFrom, fileFrom, batchFrom, entryFrom, addendumFrom}
+use Rattle.writing.specs.Forming.{batchRows, entriesAhead, entryRows, textsAhead, owed, idle, Inside, batchAt, entryAt, lastAt, textAt, formAt, formOf, pastOf}
+use Rattle.forming.proofs.ShapeLaws.{rows-first, rows-none, sum-first, entries-in}
 
 -- ---- the entries and batches that a cursor stands before
 

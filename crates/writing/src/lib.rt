@@ -1,5 +1,6 @@
 // Writing: a pay table is formed into a file. The formed file's records are walked twice, first to check them and then to write
 // them, so that a refusal is known before the first byte is written.
+use forming::shape;
 use layout::Answer;
 use layout::Fault;
 use layout::Made;
@@ -13,19 +14,8 @@ ghost use Rattle.view.specs.View.{recordsOf};
 ghost use Rattle.view.specs.Table.{shaped, viewOfTable};
 ghost use Rattle.view.specs.Outcome.{refusal, writeOf};
 
-mod forms;
 mod pass;
-mod shape;
 mod walk;
-
-// The counts of a table, and where its entry rows and its addenda begin.
-struct Sections {
-    batches: usize,
-    entries: usize,
-    addenda: usize,
-    entryrows: usize,
-    textrows: usize,
-}
 
 // Where the walk along a table has got to: the batches to come and the next one's row, the entries left in this batch, the next
 // entry's row, the row of the entry before it, and the next addendum.

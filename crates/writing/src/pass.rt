@@ -1,7 +1,7 @@
 // The two passes over the records of the formed file: the first only checks them, the second writes them.
 use crate::Cursor;
-use crate::shape;
 use crate::walk;
+use forming::shape;
 use layout::Answer;
 use layout::Fault;
 use layout::RecordNo;
@@ -24,7 +24,7 @@ ghost use Rattle.records.specs.Run.{checkedOf};
 ghost use Rattle.view.specs.View.{recordsOf};
 ghost use Rattle.view.specs.Table.{shaped, viewOfTable, formed};
 ghost use Rattle.view.specs.Outcome.{refusal};
-ghost use Rattle.writing.specs.Sections.{sizeBy};
+ghost use Rattle.forming.specs.Sections.{sizeBy};
 ghost use Rattle.writing.specs.Forming.{firstOf};
 
 pub(crate) fn refused(fault: Fault, number: u64, k: u64) -> Answer

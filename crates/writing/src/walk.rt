@@ -1,8 +1,8 @@
 // The walk along a table: the records of the formed file one by one, each by the table, a cursor into it, and the state that the
 // records before it left.
 use crate::Cursor;
-use crate::forms;
-use crate::shape;
+use forming::forms;
+use forming::shape;
 use records::Place;
 use records::State;
 use rules::Sums;
@@ -11,7 +11,8 @@ ghost use mathlib.Core.Path.{_≡_};
 ghost use lib.ListN.{length};
 ghost use Rattle.rules.specs.Small.{Small};
 ghost use Rattle.records.specs.Fair.{Fair};
-ghost use Rattle.writing.specs.Forming.{Inside, batchNext, entryNext, addendumFrom, lastAt, textAt, formOf, pastBatch, pastEntry, pastText, pastOf};
+ghost use Rattle.forming.specs.Forms.{addendumFrom};
+ghost use Rattle.writing.specs.Forming.{Inside, batchNext, entryNext, lastAt, textAt, formOf, pastBatch, pastEntry, pastText, pastOf};
 
 // Record 5 of the next batch, or behind the last one the record 9.
 fn next_batch(table: &[u8], c: Cursor, sums: Sums) -> [u8; 94]

@@ -1,4 +1,4 @@
-use Rattle.altering.proofs.Parts.{starts, counted}
+use Rattle.finding.proofs.Parts.{starts, counted}
 use lib.ListN.{length}
 use native.Mathlib.Omega.{arith}
 use Prim.Native.Nat.{_+_}
@@ -12,99 +12,99 @@ use Rattle.altering.proofs.alter_there.Statement.{statement}
 use Rattle.altering.proofs.alter_there.Tie as tie
 use Rattle.altering.proofs.alter_there.Reads as reads
 use Rattle.altering.proofs.alter_there.Lts as lts
-use Rattle.altering.proofs.find.locate.Reads as locate-reads
-use Rattle.altering.proofs.refused.Reads as refused-reads
+use Rattle.finding.proofs.find.locate.Reads as locate-reads
+use Rattle.finding.proofs.refused.Reads as refused-reads
 use Rattle.altering.proofs.side.credits.Reads as credits-reads
 use Rattle.altering.proofs.side.debits.Reads as debits-reads
 use Rattle.altering.proofs.side.entry_said.Reads as entry-said-reads
 use Rattle.altering.proofs.side.exchange.Reads as exchange-reads
 use Rattle.kinds.proofs.codes.carries.Reads as carries-reads
 
--- src/lib.rt:113:9
+-- src/lib.rt:22:9
 locate-requires : tie.Need-locate-requires
 locate-requires c κs = search needs
 
--- src/lib.rt:115:9
+-- src/lib.rt:24:9
 entry-said-requires : tie.Need-entry-said-requires
 entry-said-requires c κs = starts ((c .before .before .before .before .args) .way) (length ((c .before .before .before .before .args) .file .now)) ((c .before .locate) .result .entry + 1) (omega (arith, (c .before .locate) .ensures .first, (c .before .locate) .ensures .second, counted ((c .before .before .before .before .args) .way) (length ((c .before .before .before .before .args) .file .now)) ((c .before .locate) .result .last + 1) ((c .before .locate) .ensures .inside)))
 
--- src/lib.rt:118:9
+-- src/lib.rt:27:9
 carries-requires : tie.Need-carries-requires
 carries-requires c κs = search needs
 
--- src/lib.rt:120:44
+-- src/lib.rt:29:44
 add-refused : tie.Need-add-refused
 add-refused c = search needs
 
--- src/lib.rt:120:21
+-- src/lib.rt:29:21
 refused-requires : tie.Need-refused-requires
 refused-requires c κs = search needs
 
--- src/lib.rt:119:9
+-- src/lib.rt:28:9
 same-length : tie.Need-same-length
 same-length c = search needs
 
--- src/lib.rt:119:9
+-- src/lib.rt:28:9
 returns : tie.Need-returns
 returns c = rw ((c .refused) .ensures) (amount-refused ((c .before .before .before .before .before .before .before .before .args) .way) ((c .before .before .before .before .before .before .before .before .args) .file .now) ((c .before .before .before .before .before .before .before .before .args) .k) ((c .before .before .before .before .before .before .before .before .args) .amount) ((c .before .before .before .before .before .before .before .before .pre) .0) ((c .before .before .before .before .before .locate) .result) ((c .before .before .before .before .before .locate) .ensures) ((c .before .before .before .entry-said) .result .code) ((c .before .before .before .entry-said) .ensures .0) (sym ((c .before .before .carries) .ensures) ∙ not-true ((c .before .before .carries) .result) ((c .before .if1) .taken)))
 
--- src/lib.rt:127:29
+-- src/lib.rt:36:29
 enum-told : tie.Need-enum-told
 enum-told c = search needs
 
--- src/lib.rt:127:44
+-- src/lib.rt:36:44
 add-refused-2 : tie.Need-add-refused-2
 add-refused-2 c = search needs
 
--- src/lib.rt:127:21
+-- src/lib.rt:36:21
 refused-requires-2 : tie.Need-refused-requires-2
 refused-requires-2 c κs = search needs
 
--- src/lib.rt:131:33
+-- src/lib.rt:40:33
 enum-told-2 : tie.Need-enum-told-2
 enum-told-2 c = search needs
 
--- src/lib.rt:131:47
+-- src/lib.rt:40:47
 credits-requires : tie.Need-credits-requires
 credits-requires c κs = search needs
 
--- src/lib.rt:131:13
+-- src/lib.rt:40:13
 exchange-requires : tie.Need-exchange-requires
 exchange-requires c κs = credit-alters ((c .before .before .before .before .before .before .before .before .before .before .before .args) .way) ((c .before .before .before .before .before .before .before .before .before .before .before .args) .file .now) ((c .before .before .before .before .before .before .before .before .before .before .before .args) .k) ((c .before .before .before .before .before .before .before .before .before .before .before .args) .amount) ((c .before .before .before .before .before .before .before .before .before .before .before .pre) .0) ((c .before .before .before .before .before .before .before .before .locate) .result) ((c .before .before .before .before .before .before .before .before .locate) .ensures) ((c .before .before .before .before .before .before .entry-said) .result .code) ((c .credits) .result) ((c .before .before .before .before .before .before .before .before .before .before .before .args) .credit) ((c .before .before .before .before .before .before .entry-said) .result .amount) _ ((c .before .before .before .before .before .before .entry-said) .ensures .0) ((c .before .before .before .before .before .before .entry-said) .ensures .1) (sym ((c .before .before .before .before .before .carries) .ensures) ∙ not-false ((c .before .before .before .before .before .carries) .result) ((c .before .before .before .before .if1) .left)) ((c .before .before .enum-told2) .given .1) ((c .credits) .ensures) ((c .before .before .before .before .before .before .before .before .before .before .before .pre) .2) .0
 
--- src/lib.rt:133:49
+-- src/lib.rt:42:49
 enum-told-3 : tie.Need-enum-told-3
 enum-told-3 c = search needs
 
--- src/lib.rt:133:63
+-- src/lib.rt:42:63
 debits-requires : tie.Need-debits-requires
 debits-requires c κs = search needs
 
--- src/lib.rt:133:29
+-- src/lib.rt:42:29
 exchange-requires-2 : tie.Need-exchange-requires-2
 exchange-requires-2 c κs = debit-alters ((c .before .before .before .before .before .before .before .before .before .before .before .args) .way) ((c .before .before .before .before .before .before .before .before .before .before .before .args) .file .now) ((c .before .before .before .before .before .before .before .before .before .before .before .args) .k) ((c .before .before .before .before .before .before .before .before .before .before .before .args) .amount) ((c .before .before .before .before .before .before .before .before .before .before .before .pre) .0) ((c .before .before .before .before .before .before .before .before .locate) .result) ((c .before .before .before .before .before .before .before .before .locate) .ensures) ((c .before .before .before .before .before .before .entry-said) .result .code) ((c .debits) .result) ((c .before .before .before .before .before .before .before .before .before .before .before .args) .debit) ((c .before .before .before .before .before .before .entry-said) .result .amount) _ ((c .before .before .before .before .before .before .entry-said) .ensures .0) ((c .before .before .before .before .before .before .entry-said) .ensures .1) (sym ((c .before .before .before .before .before .carries) .ensures) ∙ not-false ((c .before .before .before .before .before .carries) .result) ((c .before .before .before .before .if1) .left)) ((c .before .before .enum-told3) .given .1) ((c .debits) .ensures) ((c .before .before .before .before .before .before .before .before .before .before .before .pre) .1) .0
 
--- src/lib.rt:109:1
+-- src/lib.rt:18:1
 same-length-2 : tie.Need-same-length-2
 same-length-2 c = search needs
 
--- src/lib.rt:109:1
+-- src/lib.rt:18:1
 returns-2 : tie.Need-returns-2
 returns-2 c = rw ((c .refused2) .ensures) (amount-refused ((c .before .before .before .before .before .before .before .before .before .before .args) .way) ((c .before .before .before .before .before .before .before .before .before .before .args) .file .now) ((c .before .before .before .before .before .before .before .before .before .before .args) .k) ((c .before .before .before .before .before .before .before .before .before .before .args) .amount) ((c .before .before .before .before .before .before .before .before .before .before .pre) .0) ((c .before .before .before .before .before .before .before .locate) .result) ((c .before .before .before .before .before .before .before .locate) .ensures) ((c .before .before .before .before .before .entry-said) .result .code) ((c .before .before .before .before .before .entry-said) .ensures .0) (ap (λ x. carries x ((c .before .before .before .before .before .before .before .before .before .before .args) .amount)) ((c .before .enum-told) .given .1)))
 
--- src/lib.rt:109:1
+-- src/lib.rt:18:1
 same-length-3 : tie.Need-same-length-3
 same-length-3 c = search needs
 
--- src/lib.rt:109:1
+-- src/lib.rt:18:1
 returns-3 : tie.Need-returns-3
 returns-3 c = comes-as (credit-alters ((c .before .before .before .before .before .before .before .before .before .before .before .before .before .before .args) .way) ((c .before .before .before .before .before .before .before .before .before .before .before .before .before .before .args) .file .now) ((c .before .before .before .before .before .before .before .before .before .before .before .before .before .before .args) .k) ((c .before .before .before .before .before .before .before .before .before .before .before .before .before .before .args) .amount) ((c .before .before .before .before .before .before .before .before .before .before .before .before .before .before .pre) .0) ((c .before .before .before .before .before .before .before .before .before .before .before .locate) .result) ((c .before .before .before .before .before .before .before .before .before .before .before .locate) .ensures) ((c .before .before .before .before .before .before .before .before .before .entry-said) .result .code) ((c .before .before .before .credits) .result) ((c .before .before .before .before .before .before .before .before .before .before .before .before .before .before .args) .credit) ((c .before .before .before .before .before .before .before .before .before .entry-said) .result .amount) _ ((c .before .before .before .before .before .before .before .before .before .entry-said) .ensures .0) ((c .before .before .before .before .before .before .before .before .before .entry-said) .ensures .1) (sym ((c .before .before .before .before .before .before .before .before .carries) .ensures) ∙ not-false ((c .before .before .before .before .before .before .before .before .carries) .result) ((c .before .before .before .before .before .before .before .if1) .left)) ((c .before .before .before .before .before .enum-told2) .given .1) ((c .before .before .before .credits) .ensures) ((c .before .before .before .before .before .before .before .before .before .before .before .before .before .before .pre) .2) .1) ((c .before .before .exchange) .ensures)
 
--- src/lib.rt:109:1
+-- src/lib.rt:18:1
 same-length-4 : tie.Need-same-length-4
 same-length-4 c = search needs
 
--- src/lib.rt:109:1
+-- src/lib.rt:18:1
 returns-4 : tie.Need-returns-4
 returns-4 c = comes-as (debit-alters ((c .before .before .before .before .before .before .before .before .before .before .before .before .before .before .args) .way) ((c .before .before .before .before .before .before .before .before .before .before .before .before .before .before .args) .file .now) ((c .before .before .before .before .before .before .before .before .before .before .before .before .before .before .args) .k) ((c .before .before .before .before .before .before .before .before .before .before .before .before .before .before .args) .amount) ((c .before .before .before .before .before .before .before .before .before .before .before .before .before .before .pre) .0) ((c .before .before .before .before .before .before .before .before .before .before .before .locate) .result) ((c .before .before .before .before .before .before .before .before .before .before .before .locate) .ensures) ((c .before .before .before .before .before .before .before .before .before .entry-said) .result .code) ((c .before .before .before .debits) .result) ((c .before .before .before .before .before .before .before .before .before .before .before .before .before .before .args) .debit) ((c .before .before .before .before .before .before .before .before .before .entry-said) .result .amount) _ ((c .before .before .before .before .before .before .before .before .before .entry-said) .ensures .0) ((c .before .before .before .before .before .before .before .before .before .entry-said) .ensures .1) (sym ((c .before .before .before .before .before .before .before .before .carries) .ensures) ∙ not-false ((c .before .before .before .before .before .before .before .before .carries) .result) ((c .before .before .before .before .before .before .before .if1) .left)) ((c .before .before .before .before .before .enum-told3) .given .1) ((c .before .before .before .debits) .ensures) ((c .before .before .before .before .before .before .before .before .before .before .before .before .before .before .pre) .1) .1) ((c .before .before .exchange2) .ensures)
 

@@ -6,11 +6,11 @@ use Rattle.writing.proofs.unmade.Reads as reads
 use Rattle.writing.proofs.unmade.Lts as lts
 use Rattle.writing.proofs.pass.refused.Reads as refused-reads
 
--- src/lib.rt:55:17
+-- src/lib.rt:45:17
 refused-requires : tie.Need-refused-requires
 refused-requires c κs = search needs
 
--- src/lib.rt:51:1
+-- src/lib.rt:41:1
 returns : tie.Need-returns
 returns c = rw ((c .refused) .ensures) refl
 

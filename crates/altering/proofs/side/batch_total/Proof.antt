@@ -1,5 +1,5 @@
 use Rattle.altering.proofs.Exchange.{control-in}
-use Rattle.altering.proofs.Parts.{cut-out}
+use Rattle.finding.proofs.Parts.{cut-out}
 use Rattle.text.specs.Decimal.{value}
 use lib.ListN.{take, drop, length}
 use Prim.Native.Nat.{_+_, _*_}

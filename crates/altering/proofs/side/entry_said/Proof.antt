@@ -1,4 +1,4 @@
-use Rattle.altering.proofs.Parts.{record-cut, on}
+use Rattle.finding.proofs.Parts.{record-cut, on}
 use Rattle.rules.specs.Field.{entryCode, entryAmount}
 use Rattle.kinds.specs.Codes.{codeOf}
 use native.Mathlib.Omega.{arith}

@@ -5,7 +5,7 @@ use Rattle.altering.proofs.side.limits.Statement.{statement}
 use Rattle.altering.proofs.side.limits.Tie as tie
 use Rattle.altering.proofs.side.limits.Reads as reads
 use Rattle.altering.proofs.side.limits.Lts as lts
-use Rattle.altering.proofs.refused.Reads as refused-reads
+use Rattle.finding.proofs.refused.Reads as refused-reads
 
 -- src/side.rt:88:13
 add-refused : tie.Need-add-refused

@@ -1,4 +1,4 @@
-use Rattle.altering.proofs.Parts.{put-there}
+use Rattle.finding.proofs.Parts.{put-there}
 use borrow.Author.Needs.{needs}
 use Rattle.altering.proofs.side.put_at.Statement.{statement}
 use Rattle.altering.proofs.side.put_at.Tie as tie

@@ -4,7 +4,7 @@ use Rattle.writing.proofs.pass.opened.Statement.{statement}
 use Rattle.writing.proofs.pass.opened.Tie as tie
 use Rattle.writing.proofs.pass.opened.Reads as reads
 use Rattle.writing.proofs.pass.opened.Lts as lts
-use Rattle.writing.proofs.shape.sections.Reads as sections-reads
+use Rattle.forming.proofs.shape.sections.Reads as sections-reads
 
 -- src/pass.rt:41:9
 sections-requires : tie.Need-sections-requires

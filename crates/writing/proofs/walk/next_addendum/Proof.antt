@@ -1,4 +1,4 @@
-use Rattle.writing.specs.Forming.{addendumFrom}
+use Rattle.forming.specs.Forms.{addendumFrom}
 use lib.ListN.{take, drop}
 use mathlib.Core.Path.{_≡_}
 use Prim.Native.Nat.{_+_, _-_}
@@ -9,45 +9,45 @@ use Rattle.writing.proofs.walk.next_addendum.Statement.{statement}
 use Rattle.writing.proofs.walk.next_addendum.Tie as tie
 use Rattle.writing.proofs.walk.next_addendum.Reads as reads
 use Rattle.writing.proofs.walk.next_addendum.Lts as lts
-use Rattle.writing.proofs.forms.addendum.Reads as addendum-reads
+use Rattle.forming.proofs.forms.addendum.Reads as addendum-reads
 
--- src/walk.rt:47:35
+-- src/walk.rt:48:35
 add-addendum : tie.Need-add-addendum
 add-addendum c = search needs
 
--- src/walk.rt:47:21
+-- src/walk.rt:48:21
 sub-addendum : tie.Need-sub-addendum
 sub-addendum c = search needs
 
--- src/walk.rt:47:21
+-- src/walk.rt:48:21
 part-addendum-start : tie.Need-part-addendum-start
 part-addendum-start c = search needs
 
--- src/walk.rt:47:21
+-- src/walk.rt:48:21
 part-addendum-end : tie.Need-part-addendum-end
 part-addendum-end c = search needs
 
--- src/walk.rt:47:59
+-- src/walk.rt:48:59
 add-addendum-2 : tie.Need-add-addendum-2
 add-addendum-2 c = search needs
 
--- src/walk.rt:47:48
+-- src/walk.rt:48:48
 sub-addendum-2 : tie.Need-sub-addendum-2
 sub-addendum-2 c = search needs
 
--- src/walk.rt:47:48
+-- src/walk.rt:48:48
 part-addendum-start-2 : tie.Need-part-addendum-start-2
 part-addendum-start-2 c = search needs
 
--- src/walk.rt:47:48
+-- src/walk.rt:48:48
 part-addendum-end-2 : tie.Need-part-addendum-end-2
 part-addendum-end-2 c = search needs
 
--- src/walk.rt:47:5
+-- src/walk.rt:48:5
 addendum-requires : tie.Need-addendum-requires
 addendum-requires c κs = search needs
 
--- src/walk.rt:41:1
+-- src/walk.rt:42:1
 returns : tie.Need-returns
 returns c = let row : (c .before .before .before .before .args) .c .last + 93 - (c .before .before .before .before .args) .c .last ≡ 93 = omega arith in
     let text : (c .before .before .before .before .args) .c .text + 80 - (c .before .before .before .before .args) .c .text ≡ 80 = omega arith in

@@ -1,4 +1,4 @@
-use Rattle.writing.specs.Forming.{batchFrom}
+use Rattle.forming.specs.Forms.{batchFrom}
 use lib.ListN.{take, drop}
 use mathlib.Core.Path.{_≡_}
 use Prim.Native.Nat.{_+_, _-_}
@@ -10,39 +10,39 @@ use Rattle.writing.proofs.walk.next_batch.Statement.{statement}
 use Rattle.writing.proofs.walk.next_batch.Tie as tie
 use Rattle.writing.proofs.walk.next_batch.Reads as reads
 use Rattle.writing.proofs.walk.next_batch.Lts as lts
-use Rattle.writing.proofs.forms.batch_header.Reads as batch-header-reads
-use Rattle.writing.proofs.forms.file_control.Reads as file-control-reads
+use Rattle.forming.proofs.forms.batch_header.Reads as batch-header-reads
+use Rattle.forming.proofs.forms.file_control.Reads as file-control-reads
 
--- src/walk.rt:23:47
+-- src/walk.rt:24:47
 add-batch-header : tie.Need-add-batch-header
 add-batch-header c = search needs
 
--- src/walk.rt:23:36
+-- src/walk.rt:24:36
 sub-batch-header : tie.Need-sub-batch-header
 sub-batch-header c = search needs
 
--- src/walk.rt:23:36
+-- src/walk.rt:24:36
 part-batch-header-start : tie.Need-part-batch-header-start
 part-batch-header-start c = search needs
 
--- src/walk.rt:23:36
+-- src/walk.rt:24:36
 part-batch-header-end : tie.Need-part-batch-header-end
 part-batch-header-end c = search needs
 
--- src/walk.rt:23:9
+-- src/walk.rt:24:9
 batch-header-requires : tie.Need-batch-header-requires
 batch-header-requires c κs = search needs
 
--- src/walk.rt:23:9
+-- src/walk.rt:24:9
 returns : tie.Need-returns
 returns c = let wide : (c .before .before .before .before .before .args) .c .batch + 95 - (c .before .before .before .before .before .args) .c .batch ≡ 95 = omega arith in
     rw (lt-ltb 0 ((c .before .before .before .before .before .args) .c .batches) ((c .before .before .if1) .taken)) ((c .batch-header) .ensures ∙ ap (λ n. batchFrom (take n (drop ((c .before .before .before .before .before .args) .c .batch) ((c .before .before .before .before .before .args) .table .now)))) wide)
 
--- src/walk.rt:25:5
+-- src/walk.rt:26:5
 file-control-requires : tie.Need-file-control-requires
 file-control-requires c κs = search needs
 
--- src/walk.rt:17:1
+-- src/walk.rt:18:1
 returns-2 : tie.Need-returns-2
 returns-2 c = rw (le-ltb 0 ((c .before .before .before .before .args) .c .batches) ((c .before .if1) .left)) ((c .file-control) .ensures)
 

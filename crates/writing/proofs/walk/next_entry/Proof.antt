@@ -1,4 +1,4 @@
-use Rattle.writing.specs.Forming.{entryFrom}
+use Rattle.forming.specs.Forms.{entryFrom}
 use lib.ListN.{take, drop}
 use mathlib.Core.Path.{_≡_}
 use Prim.Native.Nat.{_+_, _-_}
@@ -10,39 +10,39 @@ use Rattle.writing.proofs.walk.next_entry.Statement.{statement}
 use Rattle.writing.proofs.walk.next_entry.Tie as tie
 use Rattle.writing.proofs.walk.next_entry.Reads as reads
 use Rattle.writing.proofs.walk.next_entry.Lts as lts
-use Rattle.writing.proofs.forms.batch_control.Reads as batch-control-reads
-use Rattle.writing.proofs.forms.entry.Reads as entry-reads
+use Rattle.forming.proofs.forms.batch_control.Reads as batch-control-reads
+use Rattle.forming.proofs.forms.entry.Reads as entry-reads
 
--- src/walk.rt:35:40
+-- src/walk.rt:36:40
 add-entry : tie.Need-add-entry
 add-entry c = search needs
 
--- src/walk.rt:35:29
+-- src/walk.rt:36:29
 sub-entry : tie.Need-sub-entry
 sub-entry c = search needs
 
--- src/walk.rt:35:29
+-- src/walk.rt:36:29
 part-entry-start : tie.Need-part-entry-start
 part-entry-start c = search needs
 
--- src/walk.rt:35:29
+-- src/walk.rt:36:29
 part-entry-end : tie.Need-part-entry-end
 part-entry-end c = search needs
 
--- src/walk.rt:35:9
+-- src/walk.rt:36:9
 entry-requires : tie.Need-entry-requires
 entry-requires c κs = search needs
 
--- src/walk.rt:35:9
+-- src/walk.rt:36:9
 returns : tie.Need-returns
 returns c = let wide : (c .before .before .before .before .before .before .args) .c .entry + 93 - (c .before .before .before .before .before .before .args) .c .entry ≡ 93 = omega arith in
     rw (lt-ltb 0 ((c .before .before .before .before .before .before .args) .c .left) ((c .before .before .if1) .taken)) ((c .entry) .ensures ∙ ap (λ n. entryFrom (take n (drop ((c .before .before .before .before .before .before .args) .c .entry) ((c .before .before .before .before .before .before .args) .table .now)))) wide)
 
--- src/walk.rt:37:5
+-- src/walk.rt:38:5
 batch-control-requires : tie.Need-batch-control-requires
 batch-control-requires c κs = search needs
 
--- src/walk.rt:29:1
+-- src/walk.rt:30:1
 returns-2 : tie.Need-returns-2
 returns-2 c = rw (le-ltb 0 ((c .before .before .before .before .before .args) .c .left) ((c .before .if1) .left)) ((c .batch-control) .ensures)
 

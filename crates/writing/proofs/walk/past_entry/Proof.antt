@@ -6,19 +6,19 @@ use Rattle.writing.proofs.walk.past_entry.Tie as tie
 use Rattle.writing.proofs.walk.past_entry.Reads as reads
 use Rattle.writing.proofs.walk.past_entry.Lts as lts
 
--- src/walk.rt:96:19
+-- src/walk.rt:97:19
 sub-t4 : tie.Need-sub-t4
 sub-t4 c = search needs
 
--- src/walk.rt:97:20
+-- src/walk.rt:98:20
 add-t5 : tie.Need-add-t5
 add-t5 c = search needs
 
--- src/walk.rt:93:9
+-- src/walk.rt:94:9
 returns : tie.Need-returns
 returns c = rw (lt-ltb 0 ((c .before .before .before .before .args) .c .left) ((c .before .before .if1) .taken)) refl
 
--- src/walk.rt:88:1
+-- src/walk.rt:89:1
 returns-2 : tie.Need-returns-2
 returns-2 c = rw (le-ltb 0 ((c .before .before .args) .c .left) ((c .if1) .left)) refl
 
