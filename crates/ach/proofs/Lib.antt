@@ -1,3 +1,4 @@
+pub mod Earlier
 pub mod Bounds
 pub mod First
 pub mod Grants

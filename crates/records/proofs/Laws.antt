@@ -37,10 +37,10 @@ digits-small n xs =
 
 -- an entry's numbers are small
 pub said-small : (r : List ℕ) (said : Said) → said ≡ saidOf r
-    → (said .bank < 10000000000) × (said .amount < 10000000000) × (said .trace < 10000000000)
+    → (said .bank < 10000000000) × (said .amount < 10000000000)
 said-small r said e =
     rw e
-    (omega (arith, digits-small 8 (drop 3 r)), omega (arith, digits-small 10 (drop 29 r)), omega (arith, digits-small 7 (drop 8 (take 15 (drop 79 r)))))
+    (omega (arith, digits-small 8 (drop 3 r)), omega (arith, digits-small 10 (drop 29 r)))
 
 pub debit-le : (c : Code) (a : ℕ) → debitPart c a ≤ a
 debit-le Code.Unknown a = omega arith
@@ -53,8 +53,8 @@ credit-le (Code.Credit u) a = omega arith
 credit-le (Code.Debit u) a = omega arith
 
 pub small-entered : (s : Sums) (bank debit credit trace : ℕ) → Small s → s .records < 1000000
-    → bank < 10000000000 → debit < 10000000000 → credit < 10000000000 → trace < 10000000000 → Small (entered s bank debit credit trace)
-small-entered s bank debit credit trace h n b d c t =
+    → bank < 10000000000 → debit < 10000000000 → credit < 10000000000 → Small (entered s bank debit credit trace)
+small-entered s bank debit credit trace h n b d c =
     record {
       few = omega arith;
       batches = omega arith;
@@ -67,7 +67,6 @@ small-entered s bank debit credit trace h n b d c t =
       batchhash = omega arith;
       batchdebit = omega arith;
       batchcredit = omega arith;
-      trace = omega arith;
     }
 
 pub small-batch : (s : Sums) (r : List ℕ) → Small s → s .records < 1000000 → Small (addBatch s r)
@@ -84,7 +83,6 @@ small-batch s r h n =
       batchhash = omega arith;
       batchdebit = omega arith;
       batchcredit = omega arith;
-      trace = omega arith;
     }
 
 -- a whole list written over another of the same length
@@ -187,7 +185,6 @@ start-fair =
             batchhash = lit≤ tt;
             batchdebit = lit≤ tt;
             batchcredit = lit≤ tt;
-            trace = lit< tt;
           };
       rows = λ k. omega (arith, zeros 16 k);
     }

@@ -9,12 +9,11 @@ ghost use Prim.Native.Nat.{_≤_};
 ghost use lib.ListN.{length, drop};
 ghost use Rattle.layout.specs.Fields.{rowsOf, firstField};
 ghost use Rattle.rules.specs.Quick.{saidOf};
-ghost use Rattle.rules.specs.Small.{Small};
 ghost use Rattle.records.specs.declared.Verdict.{Verdict};
 ghost use Rattle.records.specs.Run.{fieldsFrom};
 
 pub fn passes(line: Line, sums: Sums, header: &[u8], said: Said, rec: &[u8]) -> bool
-    requires { ⌜ (length (now header) ≡ 94) × (length (now rec) ≡ 94) × (said ≡ saidOf (now rec)) × Small sums ⌝ }
+    requires { ⌜ (length (now header) ≡ 94) × (length (now rec) ≡ 94) × (said ≡ saidOf (now rec)) ⌝ }
     ensures { λ r. ⌜ (r ≡ true → fieldsFrom (firstField line) (rowsOf line) sums (now (header .entry)) (now (rec .entry)) ≡ Verdict.Passed) ⌝ }
 {
     match line {
@@ -31,7 +30,7 @@ pub fn passes(line: Line, sums: Sums, header: &[u8], said: Said, rec: &[u8]) -> 
 
 // Where the walk along the table starts: behind its last row where the quick test passes.
 pub fn walk_from(line: Line, sums: Sums, header: &[u8], said: Said, rec: &[u8]) -> usize
-    requires { ⌜ (length (now header) ≡ 94) × (length (now rec) ≡ 94) × (said ≡ saidOf (now rec)) × Small sums ⌝ }
+    requires { ⌜ (length (now header) ≡ 94) × (length (now rec) ≡ 94) × (said ≡ saidOf (now rec)) ⌝ }
     ensures { λ r. ⌜ (r ≤ length (rowsOf line)) × (fieldsFrom (firstField line) (drop r (rowsOf line)) sums (now (header .entry)) (now (rec .entry)) ≡ fieldsFrom (firstField line) (rowsOf line) sums (now (header .entry)) (now (rec .entry))) ⌝ }
 {
     if passes(line, sums, header, said, rec) {

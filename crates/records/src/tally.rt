@@ -42,7 +42,7 @@ fn add_batch(sums: Sums, rec: &[u8]) -> Sums
 }
 
 fn entered(sums: Sums, bank: u64, debit: u64, credit: u64, trace: u64) -> Sums
-    requires { ⌜ Small sums × (sums .records < 1000000) × (bank < 10000000000) × (debit < 10000000000) × (credit < 10000000000) × (trace < 10000000000) ⌝ }
+    requires { ⌜ Small sums × (sums .records < 1000000) × (bank < 10000000000) × (debit < 10000000000) × (credit < 10000000000) ⌝ }
     ensures { λ r. ⌜ (r ≡ entered sums bank debit credit trace) × Small r ⌝ }
 {
     let mut s = sums;
@@ -60,7 +60,7 @@ fn entered(sums: Sums, bank: u64, debit: u64, credit: u64, trace: u64) -> Sums
 }
 
 fn add_entry(sums: Sums, said: Said) -> Sums
-    requires { ⌜ Small sums × (sums .records < 1000000) × (said .bank < 10000000000) × (said .amount < 10000000000) × (said .trace < 10000000000) ⌝ }
+    requires { ⌜ Small sums × (sums .records < 1000000) × (said .bank < 10000000000) × (said .amount < 10000000000) ⌝ }
     ensures { λ r. ⌜ (r ≡ entered sums (said .bank) (debitPart (codeOf (said .code)) (said .amount)) (creditPart (codeOf (said .code)) (said .amount)) (said .trace)) × Small r ⌝ }
 {
     let code = codes::code_of(said.code);

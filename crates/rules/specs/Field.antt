@@ -64,9 +64,9 @@ checkDigitRule r p = need (digits p) Fault.Digits (need (eqb (value p) (checkDig
 abbrev pub amountRule : List ℕ → List ℕ → Mark
 amountRule r p = need (digits p) Fault.Digits (need (carries (codeOf (entryCode r)) (value p)) Fault.Amount Mark.Right)
 
--- "the last seven are at least 1 in the first entry of a batch and one more than before in each later entry"
+-- "the last seven digits must be greater than in the entry before within the batch", and "a first entry still has at least 1"
 abbrev pub traceFollows : Sums → ℕ → Bool
-traceFollows s n = pick (eqb (s .batchrecords) 0) (leb 1 n) (eqb n (s .trace + 1))
+traceFollows s n = pick (eqb (s .batchrecords) 0) (leb 1 n) (ltb (s .trace) n)
 
 -- record 6, field 11: "digits; the first eight are field 12 of record 5, the last seven .. (16)"
 abbrev pub traceRule : Sums → List ℕ → List ℕ → Mark

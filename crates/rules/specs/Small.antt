@@ -1,5 +1,5 @@
 -- What the code relies on of the sums, and no rule of the paper: each of n records adds less than 10,000,000,000 to a sum.
-use Prim.Native.Nat.{ℕ, _≤_, _<_, _*_}
+use Prim.Native.Nat.{ℕ, _≤_, _*_}
 use Rattle.rules.specs.declared.Sums.{Sums}
 
 pub record Small (s : Sums) : Type 0 where
@@ -14,4 +14,3 @@ pub record Small (s : Sums) : Type 0 where
   pub batchhash : s .batchhash ≤ s .records * 10000000000
   pub batchdebit : s .batchdebit ≤ s .records * 10000000000
   pub batchcredit : s .batchcredit ≤ s .records * 10000000000
-  pub trace : s .trace < 10000000000

@@ -6,7 +6,7 @@ use kinds::codes;
 use kinds::own;
 use layout::Fault;
 use layout::Near;
-ghost use Prim.Native.Nat.{_≤_, _<_, _^_};
+ghost use Prim.Native.Nat.{_≤_};
 ghost use mathlib.Core.Path.{_≡_};
 ghost use mathlib.Core.Bool.{true};
 ghost use lib.ListN.{length};
@@ -120,17 +120,16 @@ pub(crate) fn amount_rule(rec: &[u8], p: &[u8]) -> Mark
 }
 
 pub(crate) fn trace_follows(sums: Sums, n: u64) -> bool
-    requires { ⌜ sums .trace < 10 ^ 18 ⌝ }
     ensures { λ r. ⌜ r ≡ traceFollows sums n ⌝ }
 {
     if sums.batchrecords == 0 {
         return 1 <= n;
     }
-    n == sums.trace + 1
+    sums.trace < n
 }
 
 pub(crate) fn trace_rule(sums: Sums, header: &[u8], p: &[u8]) -> Mark
-    requires { ⌜ (length (now header) ≡ 94) × (length (now p) ≡ 15) × (sums .trace < 10 ^ 18) ⌝ }
+    requires { ⌜ (length (now header) ≡ 94) × (length (now p) ≡ 15) ⌝ }
     ensures { λ r. ⌜ r ≡ traceRule sums (now (header .entry)) (now (p .entry)) ⌝ }
 {
     if !text::digits(p) {
@@ -174,7 +173,7 @@ fn batch_number_rule(sums: Sums, p: &[u8]) -> Mark
 
 // A field with a rule that looks beyond it.
 pub(crate) fn near(sums: Sums, header: &[u8], rec: &[u8], rule: Near, p: &[u8]) -> Mark
-    requires { ⌜ (length (now header) ≡ 94) × (length (now rec) ≡ 94) × (nearFits rule (length (now p)) ≡ true) × (sums .trace < 10 ^ 18) ⌝ }
+    requires { ⌜ (length (now header) ≡ 94) × (length (now rec) ≡ 94) × (nearFits rule (length (now p)) ≡ true) ⌝ }
     ensures { λ r. ⌜ r ≡ nearRule sums (now (header .entry)) (now (rec .entry)) rule (now (p .entry)) ⌝ }
 {
     match rule {

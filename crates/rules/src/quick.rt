@@ -7,7 +7,6 @@ use kinds::Mark;
 use kinds::codes;
 use kinds::own;
 use kinds::texts;
-ghost use Prim.Native.Nat.{_<_, _^_};
 ghost use mathlib.Core.Path.{_≡_};
 ghost use lib.ListN.{length};
 ghost use Rattle.rules.specs.Field.{traceNumber, traceRule};
@@ -37,7 +36,7 @@ pub fn entry_front(header: &[u8], said: Said, rec: &[u8]) -> bool
 }
 
 fn trace_right(sums: Sums, header: &[u8], n: u64, p: &[u8]) -> bool
-    requires { ⌜ (length (now header) ≡ 94) × (length (now p) ≡ 15) × (n ≡ traceNumber (now p)) × (sums .trace < 10 ^ 18) ⌝ }
+    requires { ⌜ (length (now header) ≡ 94) × (length (now p) ≡ 15) × (n ≡ traceNumber (now p)) ⌝ }
     ensures { λ r. ⌜ r ≡ isRight (traceRule sums (now (header .entry)) (now (p .entry))) ⌝ }
 {
     text::digits(p) & text::same(&p[0..8], &header[79..87]) & near::trace_follows(sums, n)
@@ -45,7 +44,7 @@ fn trace_right(sums: Sums, header: &[u8], n: u64, p: &[u8]) -> bool
 
 // Fields 7 to 11 of an entry.
 pub fn entry_back(sums: Sums, header: &[u8], said: Said, rec: &[u8]) -> bool
-    requires { ⌜ (length (now header) ≡ 94) × (length (now rec) ≡ 94) × (said ≡ saidOf (now rec)) × (sums .trace < 10 ^ 18) ⌝ }
+    requires { ⌜ (length (now header) ≡ 94) × (length (now rec) ≡ 94) × (said ≡ saidOf (now rec)) ⌝ }
     ensures { λ r. ⌜ r ≡ entryBack sums (now (header .entry)) (now (rec .entry)) ⌝ }
 {
     let id = right(texts::optional_text(&rec[39..54]));

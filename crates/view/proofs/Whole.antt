@@ -167,8 +167,9 @@ pub record Damages : Type 0 where
   pub prenote : printed (damaged 3 3 (51 ∷ [])) ≡ paper 14 3 6
   -- code 27 under 220
   pub side : printed (damaged 3 3 (55 ∷ [])) ≡ paper 15 3 2
-  -- trace 3 behind trace 1; an addendum with trace 3 behind an entry with trace 2
-  pub trace : printed (damaged 4 94 (51 ∷ [])) ≡ paper 16 4 11
+  -- trace 0 in the first entry; trace 1 behind trace 1; an addendum with trace 3 behind an entry with trace 2
+  pub trace-first : printed (damaged 3 94 (48 ∷ [])) ≡ paper 16 3 11
+  pub trace : printed (damaged 4 94 (49 ∷ [])) ≡ paper 16 4 11
   pub entry-trace : printed (damaged 5 94 (51 ∷ [])) ≡ paper 16 5 5
   -- batch number 0
   pub batch-number : printed (damaged 2 94 (48 ∷ [])) ≡ paper 17 2 13
@@ -223,6 +224,7 @@ whole-damages =
       amount = refl;
       prenote = refl;
       side = refl;
+      trace-first = refl;
       trace = refl;
       entry-trace = refl;
       batch-number = refl;
@@ -242,6 +244,11 @@ whole-damages =
       earlier-field = refl;
       lower-number = refl;
     }
+
+-- trace 5 behind trace 1, in the entry and in its addendum: accepted, as the traces may skip
+pub skipping-accepted : printed (sets (damaged 4 94 (53 ∷ [])) (94 * 4 + 93) (53 ∷ [])) ≡ paper 0 0 0
+unfolding runFrom fieldsFrom every valueFrom sameBytes rows weighed unbroken
+skipping-accepted = refl
 
 -- ---- the same file with line ends
 

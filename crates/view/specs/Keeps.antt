@@ -51,7 +51,7 @@ pub record EntryKeeps (h : List ℕ) (n t : ℕ) (e : Entry) : Type 0 where
   pub due : length (e .addenda) ≡ addendaDue (e .row)
   pub addenda : All (λ text. Right addendum (seen 0 0 (entryTrace (entryRecord e))) h (addendumRecord e text)) (e .addenda)
 
--- the entries of a batch, each behind those before it: "at least 1 in the first entry of a batch and one more than before in each later"
+-- the entries of a batch, each behind those before it: "a first entry still has at least 1", a later one a greater trace
 abbrev pub EntriesKeep : List ℕ → ℕ → ℕ → List Entry → Type 0
 EntriesKeep h n t [] = Unit {0}
 EntriesKeep h n t (e ∷ es) = EntryKeeps h n t e × EntriesKeep h (n + recordsIn e) (entryTrace (entryRecord e)) es

@@ -123,7 +123,7 @@ slice-aggregate-walk-from c = sym ((c .before .before .before .before .before .b
 
 -- src/lib.rt:104:13
 walk-from-requires : tie.Need-walk-from-requires Inv-loop μ-loop Inv-records μ-records
-walk-from-requires c κs = ((c .before .before .before .before .before .before .before .before .records) .inv .4, columns-long ((c .before .before .before .before .before .before .before .before .before .before .before .before .before .before .before .before .before .before .args) .way) ((c .before .before .before .before .before .before .before .before .before .before .before .before .before .before .before .before .before .before .args) .file .now) ((c .before .before .before .before .before .before .before .before .records) .at) ((walk ((c .before .before .before .before .before .before .before .before .before .before .before .before .before .before .before .before .before .before .args) .way) (length ((c .before .before .before .before .before .before .before .before .before .before .before .before .before .before .before .before .before .before .args) .file .now)) ((c .before .before .before .before .before .before .before .before .records) .at) ((c .before .before .before .before .before .before .before .before .records) .sums .records) (fit ((c .before .before .before .before .before .before .before .before .before .before .before .before .before .before .before .before .before .before .args) .way) (length ((c .before .before .before .before .before .before .before .before .before .before .before .before .before .before .before .before .before .before .args) .file .now)) (sym ((c .before .before .before .before .before .before .before .before .before .before .before .before .before .before .before .before .whole-records) .ensures) ∙ not-false ((c .before .before .before .before .before .before .before .before .before .before .before .before .before .before .before .before .whole-records) .result) ((c .before .before .before .before .before .before .before .before .before .before .before .before .before .before .before .if1) .left)) .0) (fit ((c .before .before .before .before .before .before .before .before .before .before .before .before .before .before .before .before .before .before .args) .way) (length ((c .before .before .before .before .before .before .before .before .before .before .before .before .before .before .before .before .before .before .args) .file .now)) (sym ((c .before .before .before .before .before .before .before .before .before .before .before .before .before .before .before .before .whole-records) .ensures) ∙ not-false ((c .before .before .before .before .before .before .before .before .before .before .before .before .before .before .before .before .whole-records) .result) ((c .before .before .before .before .before .before .before .before .before .before .before .before .before .before .before .if1) .left)) .1) ((c .before .before .before .before .before .before .before .before .records) .inv .1) ((c .before .before .before .before .before .before .before .before .records) .inv .2) ((c .before .before .before .before .before .before .before .if2) .left)) .room), (c .before .before .before .said) .ensures, (c .before .before .before .before .before .before .before .before .records) .inv .0 .sums)
+walk-from-requires c κs = ((c .before .before .before .before .before .before .before .before .records) .inv .4, columns-long ((c .before .before .before .before .before .before .before .before .before .before .before .before .before .before .before .before .before .before .args) .way) ((c .before .before .before .before .before .before .before .before .before .before .before .before .before .before .before .before .before .before .args) .file .now) ((c .before .before .before .before .before .before .before .before .records) .at) ((walk ((c .before .before .before .before .before .before .before .before .before .before .before .before .before .before .before .before .before .before .args) .way) (length ((c .before .before .before .before .before .before .before .before .before .before .before .before .before .before .before .before .before .before .args) .file .now)) ((c .before .before .before .before .before .before .before .before .records) .at) ((c .before .before .before .before .before .before .before .before .records) .sums .records) (fit ((c .before .before .before .before .before .before .before .before .before .before .before .before .before .before .before .before .before .before .args) .way) (length ((c .before .before .before .before .before .before .before .before .before .before .before .before .before .before .before .before .before .before .args) .file .now)) (sym ((c .before .before .before .before .before .before .before .before .before .before .before .before .before .before .before .before .whole-records) .ensures) ∙ not-false ((c .before .before .before .before .before .before .before .before .before .before .before .before .before .before .before .before .whole-records) .result) ((c .before .before .before .before .before .before .before .before .before .before .before .before .before .before .before .if1) .left)) .0) (fit ((c .before .before .before .before .before .before .before .before .before .before .before .before .before .before .before .before .before .before .args) .way) (length ((c .before .before .before .before .before .before .before .before .before .before .before .before .before .before .before .before .before .before .args) .file .now)) (sym ((c .before .before .before .before .before .before .before .before .before .before .before .before .before .before .before .before .whole-records) .ensures) ∙ not-false ((c .before .before .before .before .before .before .before .before .before .before .before .before .before .before .before .before .whole-records) .result) ((c .before .before .before .before .before .before .before .before .before .before .before .before .before .before .before .if1) .left)) .1) ((c .before .before .before .before .before .before .before .before .records) .inv .1) ((c .before .before .before .before .before .before .before .before .records) .inv .2) ((c .before .before .before .before .before .before .before .if2) .left)) .room), (c .before .before .before .said) .ensures)
 
 -- src/lib.rt:105:9
 loop-holds : tie.Need-loop-holds Inv-loop μ-loop Inv-records μ-records

@@ -26,7 +26,7 @@ returns c = λ e. absurd (false≢true e)
 
 -- src/quick.rt:25:13
 entry-back-requires : tie.Need-entry-back-requires
-entry-back-requires c κs = ((c .before .before .before .before .before .before .pre) .0, (c .before .before .before .before .before .before .pre) .1, (c .before .before .before .before .before .before .pre) .2, omega (arith, (c .before .before .before .before .before .before .pre) .3 .trace))
+entry-back-requires c κs = ((c .before .before .before .before .before .before .pre) .0, (c .before .before .before .before .before .before .pre) .1, (c .before .before .before .before .before .before .pre) .2)
 
 -- src/quick.rt:27:27
 enum-told-2 : tie.Need-enum-told-2

@@ -37,7 +37,7 @@ said-requires c κs = search needs
 
 -- src/step.rt:28:9
 walk-from-requires : tie.Need-walk-from-requires Inv-loop μ-loop
-walk-from-requires c κs = ((c .before .before .before .before .before .pre) .0, (c .before .before .before .before .before .pre) .1, (c .said) .ensures, (c .before .before .before .before .before .pre) .2)
+walk-from-requires c κs = ((c .before .before .before .before .before .pre) .0, (c .before .before .before .before .before .pre) .1, (c .said) .ensures)
 
 -- src/step.rt:29:5
 loop-holds : tie.Need-loop-holds Inv-loop μ-loop

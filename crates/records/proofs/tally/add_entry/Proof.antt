@@ -31,7 +31,6 @@ entered-requires c κs = (
   (c .before .before .before .pre) .2,
   omega (arith, (c .before .before .before .pre) .3, (c .before .debit-part) .ensures, debit-le ((c .before .before .code-of) .result) ((c .before .before .before .args) .said .amount)),
   omega (arith, (c .before .before .before .pre) .3, (c .credit-part) .ensures, credit-le ((c .before .before .code-of) .result) ((c .before .before .before .args) .said .amount)),
-  (c .before .before .before .pre) .4,
 )
 
 -- src/tally.rt:62:1

@@ -44,7 +44,7 @@ add-s-9 c = search needs
 
 -- src/tally.rt:40:1
 returns : tie.Need-returns
-returns c = (refl, small-entered _ _ _ _ _ ((c .before .before .before .before .before .before .before .before .before .pre) .0) ((c .before .before .before .before .before .before .before .before .before .pre) .1) ((c .before .before .before .before .before .before .before .before .before .pre) .2) ((c .before .before .before .before .before .before .before .before .before .pre) .3) ((c .before .before .before .before .before .before .before .before .before .pre) .4) ((c .before .before .before .before .before .before .before .before .before .pre) .5))
+returns c = (refl, small-entered _ _ _ _ _ ((c .before .before .before .before .before .before .before .before .before .pre) .0) ((c .before .before .before .before .before .before .before .before .before .pre) .1) ((c .before .before .before .before .before .before .before .before .before .pre) .2) ((c .before .before .before .before .before .before .before .before .before .pre) .3) ((c .before .before .before .before .before .before .before .before .before .pre) .4))
 
 pub entered-spec : {M : Type 1} → statement M
 entered-spec =

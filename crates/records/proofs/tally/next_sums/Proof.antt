@@ -32,7 +32,7 @@ enum-told-3 c = search needs
 
 -- src/tally.rt:90:24
 add-entry-requires : tie.Need-add-entry-requires
-add-entry-requires c κs = let small = said-small ((c .before .before .before .args) .rec .now) ((c .before .before .before .args) .said) ((c .before .before .before .pre) .3) in ((c .before .before .before .pre) .0, (c .before .before .before .pre) .1, small .0, small .1, small .2)
+add-entry-requires c κs = let small = said-small ((c .before .before .before .args) .rec .now) ((c .before .before .before .args) .said) ((c .before .before .before .pre) .3) in ((c .before .before .before .pre) .0, (c .before .before .before .pre) .1, small .0, small .1)
 
 -- src/tally.rt:91:27
 enum-told-4 : tie.Need-enum-told-4

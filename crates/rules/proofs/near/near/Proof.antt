@@ -42,7 +42,7 @@ enum-told-4 c = search needs
 
 -- src/near.rt:169:24
 trace-rule-requires : tie.Need-trace-rule-requires
-trace-rule-requires c κs = ((c .before .before .before .before .before .pre) .0, eqb-true _ _ (rw ((c .enum-told4) .given .1) at ((c .before .before .before .before .before .pre) .2)), (c .before .before .before .before .before .pre) .3)
+trace-rule-requires c κs = ((c .before .before .before .before .before .pre) .0, eqb-true _ _ (rw ((c .enum-told4) .given .1) at ((c .before .before .before .before .before .pre) .2)))
 
 -- src/near.rt:170:29
 enum-told-5 : tie.Need-enum-told-5

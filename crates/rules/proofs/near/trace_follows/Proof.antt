@@ -10,13 +10,9 @@ use Rattle.rules.proofs.near.trace_follows.Lts as lts
 returns : tie.Need-returns
 returns c = rw (eq-eqb _ _ (c .if1 .taken)) refl
 
--- src/near.rt:114:10
-add-result : tie.Need-add-result
-add-result c = search needs
-
 -- src/near.rt:107:1
 returns-2 : tie.Need-returns-2
 returns-2 c = rw (ne-eqb _ _ (c .before .if1 .left)) refl
 
 pub trace-follows-spec : {M : Type 1} → statement M
-trace-follows-spec = tie.close (tie.spec returns add-result returns-2)
+trace-follows-spec = tie.close (tie.spec returns returns-2)

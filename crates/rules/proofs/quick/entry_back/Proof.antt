@@ -104,7 +104,7 @@ part-trace-right-end c = search needs
 
 -- src/quick.rt:55:9
 trace-right-requires : tie.Need-trace-right-requires
-trace-right-requires c κs = ((c .before .before .before .before .before .before .before .before .before .before .before .before .before .before .before .pre) .0, search needs, rw ((c .before .before .before .before .before .before .before .before .before .before .before .before .before .before .before .pre) .2) refl, (c .before .before .before .before .before .before .before .before .before .before .before .before .before .before .before .pre) .3)
+trace-right-requires c κs = ((c .before .before .before .before .before .before .before .before .before .before .before .before .before .before .before .pre) .0, search needs, rw ((c .before .before .before .before .before .before .before .before .before .before .before .before .before .before .before .pre) .2) refl)
 
 -- src/quick.rt:47:1
 returns : tie.Need-returns

@@ -1,0 +1,89 @@
+-- The rules as they stood before a request. "What one state accepts, the next accepts, with the same counts and totals" can be said
+-- only of both.
+use Prim.Native.Nat.{ℕ, _+_}
+use mathlib.Core.Bool.{Bool, _&&_}
+use mathlib.Core.List.{List, [], _∷_, map}
+use lib.Dec.{leb, eqb}
+use lib.ListN.{length}
+use Rattle.text.specs.Decimal.{pick, digits}
+use Rattle.text.specs.Rows.{columns}
+use Rattle.text.specs.Same.{sameBytes}
+use Rattle.layout.specs.declared.Fault.{Fault}
+use Rattle.layout.specs.declared.Checked.{Checked}
+use Rattle.layout.specs.declared.Kind.{Kind}
+use Rattle.layout.specs.declared.Near.{Near}
+use Rattle.layout.specs.declared.Row.{Row}
+use Rattle.layout.specs.declared.Way.{Way}
+use Rattle.layout.specs.Fields.{rowsOf, firstField}
+use Rattle.kinds.specs.declared.Mark.{Mark}
+use Rattle.kinds.specs.Kinds.{need}
+use Rattle.rules.specs.declared.Sums.{Sums}
+use Rattle.rules.specs.Field.{traceBank, traceNumber, batchBank, nearRule, kindRule}
+use Rattle.records.specs.declared.State.{State}
+use Rattle.records.specs.declared.Verdict.{Verdict}
+use Rattle.records.specs.declared.Stepped.{Stepped}
+use Rattle.records.specs.Tally.{start, tally}
+use Rattle.records.specs.Run.{Piece, found, lineOf, stepped, closing, refused, onward, finished, lengthFits, rawRecords, pieceOf}
+
+-- ---- the check by a rule for fields, whichever it is: with `fieldOf` it is the check
+
+abbrev pub Rule : Type 0
+Rule = Sums → List ℕ → List ℕ → Row → Mark
+
+unfoldable pub fieldsBy : Rule → ℕ → List Row → Sums → List ℕ → List ℕ → Verdict
+fieldsBy rule k [] s h r = Verdict.Passed
+fieldsBy rule k (row ∷ rows) s h r = found (rule s h r row) k (fieldsBy rule (k + 1) rows s h r)
+
+abbrev pub recordBy : Rule → State → Piece → Stepped
+recordBy rule st p =
+    stepped
+    (closing (p .closed)
+    (fieldsBy rule (firstField (lineOf st (p .columns))) (rowsOf (lineOf st (p .columns))) (st .sums) (st .header) (p .columns)))
+    (tally st (lineOf st (p .columns)) (p .columns)) st
+
+unfoldable pub runBy : Rule → State → List Piece → Checked
+runBy rule st [] = finished st
+runBy rule st (p ∷ ps) = onward (recordBy rule st p .verdict) (st .sums .records + 1) (runBy rule (recordBy rule st p .state) ps)
+
+abbrev pub checkedBy : Rule → Way → List ℕ → Checked
+checkedBy rule way f =
+    pick (lengthFits way (length f)) (runBy rule start (map (pieceOf way) (rawRecords way f))) (refused Fault.Length 0 0)
+
+-- ---- before request 2: "one more than before in each later entry"
+
+abbrev pub traceInTurn : Sums → ℕ → Bool
+traceInTurn s n = pick (eqb (s .batchrecords) 0) (leb 1 n) (eqb n (s .trace + 1))
+
+abbrev pub traceUnskipped : Sums → List ℕ → List ℕ → Mark
+traceUnskipped s h p =
+    need (digits p) Fault.Digits
+    (need (sameBytes (traceBank p) (batchBank h) && traceInTurn s (traceNumber p)) Fault.Trace Mark.Right)
+
+abbrev pub nearUnskipped : Sums → List ℕ → List ℕ → Near → List ℕ → Mark
+nearUnskipped s h r Near.Code p = nearRule s h r Near.Code p
+nearUnskipped s h r Near.CheckDigit p = nearRule s h r Near.CheckDigit p
+nearUnskipped s h r Near.Amount p = nearRule s h r Near.Amount p
+nearUnskipped s h r Near.Trace p = traceUnskipped s h p
+nearUnskipped s h r Near.EntryTrace p = nearRule s h r Near.EntryTrace p
+nearUnskipped s h r Near.BatchNumber p = nearRule s h r Near.BatchNumber p
+
+abbrev pub kindUnskipped : Sums → List ℕ → List ℕ → Kind → List ℕ → Mark
+kindUnskipped s h r Kind.Type p = kindRule s h r Kind.Type p
+kindUnskipped s h r Kind.Misplaced p = kindRule s h r Kind.Misplaced p
+kindUnskipped s h r Kind.Past p = kindRule s h r Kind.Past p
+kindUnskipped s h r Kind.Nines p = kindRule s h r Kind.Nines p
+kindUnskipped s h r (Kind.Fixed n) p = kindRule s h r (Kind.Fixed n) p
+kindUnskipped s h r Kind.Blanks p = kindRule s h r Kind.Blanks p
+kindUnskipped s h r Kind.Digits p = kindRule s h r Kind.Digits p
+kindUnskipped s h r Kind.Optional p = kindRule s h r Kind.Optional p
+kindUnskipped s h r Kind.Mandatory p = kindRule s h r Kind.Mandatory p
+kindUnskipped s h r Kind.Date p = kindRule s h r Kind.Date p
+kindUnskipped s h r (Kind.Own o) p = kindRule s h r (Kind.Own o) p
+kindUnskipped s h r (Kind.Near n) p = nearUnskipped s h r n p
+kindUnskipped s h r (Kind.AsBatch c) p = kindRule s h r (Kind.AsBatch c) p
+kindUnskipped s h r (Kind.Count t) p = kindRule s h r (Kind.Count t) p
+kindUnskipped s h r (Kind.Hash t) p = kindRule s h r (Kind.Hash t) p
+kindUnskipped s h r (Kind.Total t) p = kindRule s h r (Kind.Total t) p
+
+abbrev pub unskipped : Rule
+unskipped s h r row = kindUnskipped s h r (row .kind) (columns (row .first) (row .last) r)
