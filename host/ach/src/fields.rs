@@ -45,7 +45,7 @@ pub enum Near {
     CheckDigit,
     /// Cents that the code carries.
     Amount,
-    /// The batch's bank, and one more than the entry before.
+    /// The batch's bank, and more than the entry before has.
     Trace,
     /// The end of the entry's trace number.
     EntryTrace,

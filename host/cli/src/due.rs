@@ -111,17 +111,16 @@ impl<'f> Place<'f> {
     }
 
     fn trace(&self) -> Due {
-        let bank = part(b'5', 12, self.header());
+        let bank = plain_text(part(b'5', 12, self.header()));
         let entry = self.records_back_in_batch().find(|record| record[0] == b'6');
-        let bank_text = plain_text(bank);
-        match entry.map(|entry| of_digits(&part(b'6', 11, entry)[8..])) {
-            None => words(format!("{bank_text}, as in the batch's header, and 0000001 or more")),
-            Some(9_999_999) => words("nothing: no number is left behind 9999999 in this batch"),
-            Some(before) => {
-                let due = [bank, format!("{:07}", before + 1).as_bytes()].concat();
-                text(due, "one more than the entry before")
+        let due = match entry.map(|entry| of_digits(&part(b'6', 11, entry)[8..])) {
+            None => "0000001 or more".into(),
+            Some(9_999_999) => {
+                return words("nothing: no number is left behind 9999999 in this batch")
             }
-        }
+            Some(before) => format!("a number greater than {before:07}, the entry's before it"),
+        };
+        words(format!("{bank}, as in the batch's header, and {due}"))
     }
 
     fn sum(&self, sum: Sum) -> Due {

@@ -75,8 +75,8 @@ const ADVICE: [&str; 26] = [
     "Codes 23, 28, 33 and 38 are prenotes and carry 0; the others carry 0.01 to 99999999.99.",
     "Under class 220 stand credits (22, 23, 32, 33), under 225 debits (27, 28, 37, 38), under 200\n\
      both.",
-    "A trace number is the batch's bank and a number that rises by one from entry to entry; an\n\
-     addendum repeats that number.",
+    "A trace number is the batch's bank and a number that is greater than in the entry before;\n\
+     numbers may be left out, and each batch begins anew with 1 or more. An addendum repeats it.",
     "Batch numbers start at 1 or above, and each is greater than the one before.",
     "The control does not count what is there: an entry may be missing, or be there twice.",
     "The hash is the sum of the entries' bank numbers without check digits, cut to ten digits.",

@@ -171,6 +171,37 @@ fn a_sum_beyond_the_limit() {
     run.is(1, "", &words);
 }
 
+/// A trace has to rise, and may skip: what is said of one that does not.
+#[test]
+fn a_trace_that_does_not_rise() {
+    let folder = Folder::new();
+    for (first, second, record, stands, due) in [
+        (0, 1, 3, "0000000", "and 0000001 or more"),
+        (7, 7, 4, "0000007", "and a number greater than 0000007, the entry's before it"),
+        (7, 3, 4, "0000003", "and a number greater than 0000007, the entry's before it"),
+    ] {
+        let mut plan = generate::sample();
+        plan.batches[0].entries[0].trace = first;
+        plan.batches[0].entries[1].trace = second;
+        let file = folder.with("trace.ach", &plan.file());
+        let words = format!(
+            "{}: refused, 16: the trace number is wrong
+  where  record {record}, type 6 entry {}, field 11 Trace number, columns 80-94
+  stands \"32207038{stands}\"
+  due    \"32207038\", as in the batch's header, {due}
+",
+            file.display(),
+            record - 2
+        );
+        ach!("check", file).is(1, "", &words);
+    }
+    let mut plan = generate::sample();
+    plan.batches[0].entries[0].trace = 9_999_999;
+    let run = ach!("check", folder.with("trace.ach", &plan.file()));
+    let due = "  due    nothing: no number is left behind 9999999 in this batch\n";
+    assert!(run.status == 1 && run.err.ends_with(due), "{run:?}");
+}
+
 #[test]
 fn addendum() {
     let folder = Folder::new();

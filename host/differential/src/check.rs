@@ -6,8 +6,8 @@ use ach::boundary::ach_check;
 use ach::ACCEPTANCE_LENGTH;
 use generate::columns::{field_count, place};
 use generate::damage::{
-    field_values, random_damage, resealed, with_column, with_field, with_record_doubled,
-    with_record_inserted, with_records_swapped, without_record,
+    field_values, random_damage, resealed, traces_near, with_column, with_field,
+    with_record_doubled, with_record_inserted, with_records_swapped, with_trace, without_record,
 };
 use generate::lines::{lined, random_end_damage, with_end, LINED_RECORD, SHIFTED_ENDS, WRONG_ENDS};
 use generate::{
@@ -27,6 +27,7 @@ pub fn compare(run: &Run, tally: &mut Tally) {
     for base in bases(&mut random) {
         every_cut(tally, &base);
         every_field(tally, &base);
+        every_trace(tally, &base);
         every_record(tally, &base);
         every_line_end(tally, &base);
     }
@@ -207,6 +208,19 @@ fn every_field(tally: &mut Tally, base: &[u8]) {
                 let file = with_field(base, record, field, &value);
                 in_way(tally, &about, Way::Plain, &file);
                 both(tally, &about, &resealed(&file));
+            }
+        }
+    }
+}
+
+/// The trace of every entry, with its addendum's, on both sides of the one before it: also of the
+/// last one in the batch before, with which it must not be compared.
+fn every_trace(tally: &mut Tally, base: &[u8]) {
+    for record in 1..=base.len() / RECORD {
+        if base[(record - 1) * RECORD] == b'6' {
+            for trace in traces_near(base, record) {
+                let about = format!("record {record}, trace {trace}");
+                both(tally, &about, &with_trace(base, record, trace));
             }
         }
     }

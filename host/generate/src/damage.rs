@@ -138,6 +138,29 @@ pub fn with_records_swapped(file: &[u8], one: usize, other: usize) -> Vec<u8> {
     changed
 }
 
+/// A copy in which the entry in this record has another trace, and its addendum repeats it.
+pub fn with_trace(file: &[u8], record: usize, trace: u32) -> Vec<u8> {
+    let digits = format!("{trace:07}");
+    let bank = &file[place(file, record, 11)][..8];
+    let changed = with_field(file, record, 11, [bank, digits.as_bytes()].concat());
+    match file.get(record_range(record + 1)) {
+        Some([b'7', ..]) => with_field(&changed, record + 1, 5, digits),
+        _ => changed,
+    }
+}
+
+/// Traces around that of the entry before this record, whichever batch it is in, and those at the
+/// ends.
+pub fn traces_near(file: &[u8], record: usize) -> Vec<u32> {
+    let mut back = file[..record_range(record).start].rchunks_exact(RECORD);
+    let entry = back.find(|record| record[0] == b'6');
+    let trace = entry.and_then(|entry| number(&entry[field_range(b'6', 11)][8..]));
+    let before = trace.unwrap_or(0) as u32;
+    let mut near = vec![0, 1, before.saturating_sub(1), before, before + 1, before + 2, 9_999_999];
+    near.retain(|trace| *trace <= 9_999_999);
+    near
+}
+
 /// A copy whose controls and fillers follow from its entries again, so that damage to an entry is
 /// not hidden behind a control that no longer fits. What is no number counts as 0.
 pub fn resealed(file: &[u8]) -> Vec<u8> {
@@ -251,6 +274,9 @@ pub fn random_damage(random: &mut Random, file: &[u8]) -> Vec<u8> {
         5 => file[..random.below(file.len() + 1)].to_vec(),
         6 => file[..record * RECORD].to_vec(),
         7 => extended(random, file),
+        8 if file[record_range(record).start] == b'6' => {
+            with_trace(file, record, *random.pick(&traces_near(file, record)))
+        }
         _ => with_random_value(random, file, record),
     }
 }

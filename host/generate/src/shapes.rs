@@ -69,13 +69,14 @@ pub fn plan(random: &mut Random, most_batches: usize, most_entries: usize) -> Pl
     for index in 0..batch_count {
         // Leave numbers for the batches still to come.
         let highest = 9_999_999 - (batch_count - 1 - index) as u32;
-        number = next_batch_number(random, number, highest);
+        number = next_number(random, number, highest);
         batches.push(batch(random, number, most_entries, &mut money));
     }
     Plan { header: header(random), batches }
 }
 
-fn next_batch_number(random: &mut Random, before: u32, highest: u32) -> u32 {
+/// A number above the one before: mostly the next, or one behind a gap of some width.
+fn next_number(random: &mut Random, before: u32, highest: u32) -> u32 {
     let gap = match random.below(8) {
         0 => random.below(1_000) as u32,
         1 => highest,
@@ -116,16 +117,26 @@ fn batch(random: &mut Random, number: u32, most_entries: usize, money: &mut Mone
         entries: Vec::new(),
     };
     let entry_count = 1 + random.below(most_entries) as u32;
-    let first_trace = match random.below(4) {
-        0 => 10_000_000 - entry_count,
-        1 => 1 + random.below(9_000_000) as u32,
-        _ => 1,
-    };
-    for trace in first_trace..first_trace + entry_count {
+    for trace in traces(random, entry_count) {
         let entry = next_entry(random, &batch, trace, money);
         batch.entries.push(entry);
     }
     batch
+}
+
+/// The traces of a batch, which rise: in half of the batches one apart, else with gaps.
+fn traces(random: &mut Random, count: u32) -> Vec<u32> {
+    let one_apart = random.one_in(2);
+    let mut trace = 0;
+    (0..count)
+        .map(|index| {
+            // Leave numbers for the entries still to come.
+            let highest = 9_999_999 - (count - 1 - index);
+            let follows = one_apart && index > 0;
+            trace = if follows { trace + 1 } else { next_number(random, trace, highest) };
+            trace
+        })
+        .collect()
 }
 
 fn next_entry(random: &mut Random, batch: &Batch, trace: u32, money: &mut Money) -> Entry {

@@ -191,10 +191,10 @@ impl<'f> Checker<'f> {
         TRACE.digits(record)?;
         let (originator, sequence) = TRACE.of(record).split_at(8);
         let sequence = value(sequence);
-        let is_first = self.batch.trace == 0;
-        let follows = if is_first { sequence >= 1 } else { sequence == self.batch.trace + 1 };
+        // Before the first entry of a batch stands 0, so this also asks for at least 1.
+        let rises = sequence > self.batch.trace;
         let expected = batch_header::ORIGINATOR.of(self.batch.header);
-        TRACE.require(originator == expected && follows, reason::TRACE)?;
+        TRACE.require(originator == expected && rises, reason::TRACE)?;
         self.batch.trace = sequence;
         Ok(())
     }

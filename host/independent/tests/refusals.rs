@@ -4,12 +4,16 @@ use generate::damage::{
     with_column, with_field, with_record_doubled, with_record_inserted, with_records_swapped,
     without_record,
 };
-use generate::{sample, Batch};
+use generate::{sample, Batch, Entry};
 use independent::{check, Refusal, Way};
 
+fn verdict(file: &[u8]) -> Result<(), (u8, u64, u8)> {
+    let parts = |Refusal { number, record, field }| (number, record, field);
+    check(Way::Plain, file).map(|_| ()).map_err(parts)
+}
+
 fn refused(file: &[u8]) -> (u8, u64, u8) {
-    let Refusal { number, record, field } = check(Way::Plain, file).expect_err("a refusal is due");
-    (number, record, field)
+    verdict(file).expect_err("a refusal is due")
 }
 
 fn whole() -> Vec<u8> {
@@ -155,6 +159,66 @@ fn nothing_follows_the_last_trace() {
     plan.batches[0].entries[0].trace = 9_999_999;
     plan.batches[0].entries[1].trace = 0;
     assert_eq!(refused(&plan.file()), (16, 4, 11));
+}
+
+#[test]
+fn traces_rise_and_may_skip() {
+    for (first, second, refusal) in [
+        (1, 2, None),
+        (1, 3, None),
+        (1, 9_999_999, None),
+        (5, 7, None),
+        (7, 7, Some((16, 4, 11))),
+        (7, 6, Some((16, 4, 11))),
+        (7, 1, Some((16, 4, 11))),
+        (9_999_999, 9_999_999, Some((16, 4, 11))),
+        (0, 1, Some((16, 3, 11))),
+    ] {
+        let mut plan = sample();
+        plan.batches[0].entries[0].trace = first;
+        plan.batches[0].entries[1].trace = second;
+        assert_eq!(verdict(&plan.file()), refusal.map_or(Ok(()), Err), "{first} {second}");
+    }
+}
+
+/// The entry right before counts, and not the first one of the batch.
+#[test]
+fn a_trace_is_compared_with_the_one_before() {
+    let mut plan = sample();
+    let entry = plan.batches[0].entries[0].clone();
+    for (third, refusal) in
+        [(10, None), (9, Some((16, 5, 11))), (8, Some((16, 5, 11))), (4, Some((16, 5, 11)))]
+    {
+        let traces = [4, 9, third].into_iter();
+        plan.batches[0].entries = traces.map(|trace| Entry { trace, ..entry.clone() }).collect();
+        assert_eq!(verdict(&plan.file()), refusal.map_or(Ok(()), Err), "{third}");
+    }
+}
+
+/// Equal to those of the batch before, lower, or higher: each batch has traces of its own.
+#[test]
+fn traces_are_not_compared_across_batches() {
+    for (first, second) in [(41, 42), (1, 2), (41, 99), (1, 41), (9_999_998, 9_999_999)] {
+        let mut plan = sample();
+        plan.batches[0].entries[0].trace = 41;
+        plan.batches[0].entries[1].trace = 42;
+        let mut batch = Batch { number: 2, ..plan.batches[0].clone() };
+        batch.entries[0].trace = first;
+        batch.entries[1].trace = second;
+        plan.batches.push(batch);
+        assert_eq!(verdict(&plan.file()), Ok(()), "{first} {second}");
+    }
+}
+
+#[test]
+fn the_bank_of_a_trace_is_due_where_it_skips() {
+    let mut plan = sample();
+    plan.batches[0].entries[1].trace = 9;
+    let file = plan.file();
+    assert_eq!(refused(&with_field(&file, 4, 11, "322070390000009")), (16, 4, 11));
+    assert_eq!(refused(&with_field(&file, 4, 11, "32207039000000X")), (6, 4, 11));
+    // Its addendum repeats what stands there, and not what would have come next.
+    assert_eq!(refused(&with_field(&file, 5, 5, "0000002")), (16, 5, 5));
 }
 
 /// Sets one column to every byte; those that pass are the ones named, the others have the number.

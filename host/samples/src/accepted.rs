@@ -92,6 +92,22 @@ pub fn pension() -> Plan {
     plan
 }
 
+/// A client's pay run from which rows were deleted before the export, so that traces are missing;
+/// the second batch begins anew, with traces that the first one has too.
+pub fn gaps() -> Plan {
+    let mut plan = sample();
+    let mut second = Batch { number: 2, ..plan.batches[0].clone() };
+    plan.batches[0].entries = pay(&[142_050, 200_000, 155_000, 187_560], 1);
+    second.entries = pay(&[96_000, 120_025], 8);
+    plan.batches.push(second);
+    for (batch, traces) in plan.batches.iter_mut().zip([[1, 2, 4, 7].as_slice(), &[2, 4]]) {
+        for (entry, trace) in batch.entries.iter_mut().zip(traces) {
+            entry.trace = *trace;
+        }
+    }
+    plan
+}
+
 /// After the sample in source document 001, with the bank's number where the sample has blanks.
 pub fn loans() -> Plan {
     let bank = 55_555_555;

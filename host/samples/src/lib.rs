@@ -38,6 +38,7 @@ fn plans() -> Vec<(&'static str, Plan)> {
         ("vendors", accepted::vendors()),
         ("staff", accepted::staff()),
         ("taxes", accepted::taxes()),
+        ("gaps", accepted::gaps()),
     ]
 }
 

@@ -1,6 +1,6 @@
-//! Files with CR LF behind every record: one in order, and refused ones made from it.
+//! Files with CR LF behind every record: two in order, and refused ones made from the first.
 
-use crate::Sample;
+use crate::{accepted, Sample};
 use generate::lines::with_end;
 use generate::sample;
 
@@ -11,6 +11,7 @@ pub fn all() -> Vec<Sample> {
         ("refused/ends-swapped", with_end(&whole, 10, b"\n\r")),
         ("refused/last-end-missing", with_end(&whole, 10, b"")),
         ("whole", whole),
+        ("gaps", accepted::gaps().lined_file()),
     ];
     files.map(|(name, bytes)| Sample { name: format!("{name}-lined.ach"), bytes }).into()
 }

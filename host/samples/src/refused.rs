@@ -1,7 +1,7 @@
 //! Files that are refused, each for one fault.
 
 use crate::{accepted, Sample};
-use generate::damage::{with_field, without_record};
+use generate::damage::{with_field, with_trace, without_record};
 use generate::lines::lined;
 use generate::{sample, RECORD};
 
@@ -20,6 +20,7 @@ pub fn all() -> Vec<Sample> {
         ("check-digit", with(4, 4, "7")),
         ("zero-pay", with(3, 6, "0000000000")),
         ("debit-in-credits", with(3, 2, "27")),
+        ("trace-twice", with_trace(&whole, 4, 1)),
         ("amount-changed", with(3, 6, "0000010001")),
         ("entry-lost", without_record(&accepted::eleven().file(), 20)),
         ("bank-blank", with_field(&accepted::loans().file(), 2, 12, "        ")),

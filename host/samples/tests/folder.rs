@@ -58,15 +58,28 @@ fn every_file_has_its_line() {
     }
 }
 
-/// The same records as in `whole`, two bytes more for each; in the other way it is refused.
+/// The same records as in their twins, two bytes more for each; in the other way it is refused.
 #[test]
-fn the_lined_sample_is_the_whole_one_with_line_ends() {
-    let (file, whole) = (content("whole-lined.ach"), content("whole.ach"));
-    assert_eq!((file.len(), whole.len()), (960, 940));
-    for (line, record) in file.chunks(96).zip(whole.chunks(94)) {
-        assert_eq!((&line[..94], &line[94..]), (record, b"\r\n".as_slice()));
+fn the_lined_samples_are_others_with_line_ends() {
+    for (name, records) in [("whole", 10), ("gaps", 20)] {
+        let (file, twin) = (content(&format!("{name}-lined.ach")), content(&format!("{name}.ach")));
+        assert_eq!((file.len(), twin.len()), (96 * records, 94 * records));
+        for (line, record) in file.chunks(96).zip(twin.chunks(94)) {
+            assert_eq!((&line[..94], &line[94..]), (record, b"\r\n".as_slice()));
+        }
     }
-    assert_eq!(file, content("refused/line-ends.ach"));
+    assert_eq!(content("whole-lined.ach"), content("refused/line-ends.ach"));
+}
+
+/// Numbers are missing in each batch, and the second has one that the first has too.
+#[test]
+fn traces_are_left_out() {
+    let file = content("gaps.ach");
+    let traces: Vec<&[u8]> = entries(&file).iter().map(|entry| &entry[87..]).collect();
+    assert_eq!(traces, [b"0000001", b"0000002", b"0000004", b"0000007", b"0000002", b"0000004"]);
+    let twice = content("refused/trace-twice.ach");
+    let traces: Vec<&[u8]> = entries(&twice).iter().map(|entry| &entry[79..]).collect();
+    assert_eq!(traces, [b"322070380000001"; 2]);
 }
 
 fn entries(file: &[u8]) -> Vec<&[u8]> {

@@ -118,7 +118,7 @@ fn entry(to: &mut Collection) {
     text_cases(to, record, 9, 2, false);
     cases(to, record, 11, &[("32207038000000A", 6), ("322070380000000", 16)]);
     cases(to, record, 11, &[("322070390000001", 16)]);
-    cases(to, SECOND_ENTRY, 11, &[("322070380000001", 16)]);
+    cases(to, SECOND_ENTRY, 11, &[("322070380000001", 16), ("322070380000000", 16)]);
 }
 
 fn addendum(to: &mut Collection) {

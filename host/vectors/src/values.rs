@@ -84,9 +84,57 @@ fn traces(to: &mut Collection) {
     };
     to.accepted("traces that start late", &with_traces(41, 42));
     to.accepted("traces up to the last", &with_traces(9_999_998, 9_999_999));
-    let wrapped = with_traces(9_999_999, 0).file();
-    to.refused("nothing follows the last trace", wrapped, (16, 4, 11));
-    to.refused("a trace left out", with_traces(1, 3).file(), (16, 4, 11));
+    to.accepted("a trace left out", &with_traces(1, 3));
+    to.accepted("all traces left out but the ends", &with_traces(1, 9_999_999));
+    for (about, first, second) in [
+        ("nothing follows the last trace", 9_999_999, 0),
+        ("the last trace twice", 9_999_999, 9_999_999),
+        ("a trace twice", 41, 41),
+        ("a trace one less than before", 41, 40),
+    ] {
+        to.refused(about, with_traces(first, second).file(), (16, 4, 11));
+    }
+    let skipping = with_traces(1, 9).file();
+    let other_bank = with_field(&skipping, 4, 11, "322070390000009");
+    to.refused("a trace left out, and another bank", other_bank, (16, 4, 11));
+    let as_if_next = with_field(&skipping, 5, 5, "0000002");
+    to.refused("a trace left out, but not by its addendum", as_if_next, (16, 5, 5));
+    traces_of_three(to);
+    traces_of_two_batches(to);
+}
+
+/// The third of three is compared with the second.
+fn traces_of_three(to: &mut Collection) {
+    let with_third = |third| {
+        let traces = [5, 9, third];
+        let mut plan = with_class(220, 3, |_, entry| entry);
+        for (entry, trace) in plan.batches[0].entries.iter_mut().zip(traces) {
+            entry.trace = trace;
+        }
+        plan
+    };
+    to.accepted("gaps before the second and the third trace", &with_third(12));
+    for (about, third) in
+        [("the second trace again", 9), ("a trace between", 7), ("the first trace again", 5)]
+    {
+        to.refused(about, with_third(third).file(), (16, 5, 11));
+    }
+}
+
+fn traces_of_two_batches(to: &mut Collection) {
+    let with_second = |first, second| {
+        let mut plan = with_batches(&[1, 2]);
+        for (batch, traces) in plan.batches.iter_mut().zip([[41, 42], [first, second]]) {
+            for (entry, trace) in batch.entries.iter_mut().zip(traces) {
+                entry.trace = trace;
+            }
+        }
+        plan
+    };
+    to.accepted("the traces of the batch before again", &with_second(41, 42));
+    to.accepted("a lower trace than in the batch before", &with_second(1, 3));
+    to.refused("a trace twice in the second batch", with_second(1, 1).file(), (16, 9, 11));
+    to.refused("the second batch begins with 0", with_second(0, 43).file(), (16, 8, 11));
 }
 
 /// The sample with a copy of its batch for each number.
