@@ -3,25 +3,26 @@
 use Prim.Native.Nat.{ℕ, _+_, _<_}
 use native.Mathlib.Omega.{arith}
 use mathlib.Core.Path.{_≡_, refl, sym, ap, _∙_}
-use mathlib.Core.Bool.{Bool, true, false, _&&_}
+use mathlib.Core.Bool.{Bool, true, false, _&&_, _||_}
 use mathlib.Core.List.{List, [], _∷_, map}
 use lib.Dec.{leb, ltb, eqb}
 use lib.ListN.{length}
 use borrow.Author.Tests.{eqb-true, lt-ltb}
-use Rattle.text.specs.Decimal.{pick, digits}
+use Rattle.text.specs.Decimal.{pick, every, digits}
 use Rattle.text.specs.Rows.{columns}
 use Rattle.text.specs.Same.{sameBytes}
-use Rattle.text.proofs.DecimalLaws.{and-both}
+use Rattle.text.proofs.DecimalLaws.{and-both, both-and}
 use Rattle.layout.specs.declared.Answer.{Answer}
 use Rattle.layout.specs.declared.Checked.{Checked}
 use Rattle.layout.specs.declared.Fault.{Fault}
 use Rattle.layout.specs.declared.Kind.{Kind}
 use Rattle.layout.specs.declared.Near.{Near}
+use Rattle.layout.specs.declared.Own.{Own}
 use Rattle.layout.specs.declared.Row.{Row}
 use Rattle.layout.specs.declared.Way.{Way}
 use Rattle.layout.specs.Fields.{rowsOf, firstField}
 use Rattle.kinds.specs.declared.Mark.{Mark}
-use Rattle.kinds.specs.Kinds.{need}
+use Rattle.kinds.specs.Kinds.{need, isAccount, account, ownRule}
 use Rattle.rules.specs.declared.Sums.{Sums}
 use Rattle.rules.specs.Field.{traceBank, batchBank, traceNumber, traceFollows, traceRule, nearRule, kindRule, fieldOf}
 use Rattle.records.specs.declared.State.{State}
@@ -29,7 +30,7 @@ use Rattle.records.specs.declared.Verdict.{Verdict}
 use Rattle.records.specs.declared.Stepped.{Stepped}
 use Rattle.records.specs.Tally.{start, tally}
 use Rattle.records.specs.Run.{Piece, found, fieldsFrom, lineOf, stepped, closing, recordOf, refused, onward, finished, runFrom, lengthFits, rawRecords, pieceOf, checkedOf}
-use Rattle.ach.specs.Earlier.{Rule, fieldsBy, recordBy, runBy, checkedBy, traceInTurn, traceUnskipped, nearUnskipped, kindUnskipped, unskipped}
+use Rattle.ach.specs.Earlier.{Rule, fieldsBy, recordBy, runBy, checkedBy, traceInTurn, traceUnskipped, kindWith, nearUnskipped, unskipped, isUnlettered, accountUnlettered, ownUnlettered, unlettered}
 
 -- ---- the check by the rule of now is the check
 
@@ -121,6 +122,26 @@ module _ (old new : Rule) (w : Wider old new) where
       go true a = run-kept start (map (pieceOf way) (rawRecords way f)) a
       go false a = refl
 
+-- the rules with narrower ones in the place of two groups are narrower
+module _ (near : Near → List ℕ → Mark) (own : Own → List ℕ → Mark) (s : Sums) (h r : List ℕ) (a : (n : Near) (p : List ℕ) → near n p ≡ Mark.Right → nearRule s h r n p ≡ Mark.Right) (b : (o : Own) (p : List ℕ) → own o p ≡ Mark.Right → ownRule o p ≡ Mark.Right) where
+  kind-wider : (kind : Kind) (p : List ℕ) → kindWith near own s h r kind p ≡ Mark.Right → kindRule s h r kind p ≡ Mark.Right
+  kind-wider Kind.Type p e = e
+  kind-wider Kind.Misplaced p e = e
+  kind-wider Kind.Past p e = e
+  kind-wider Kind.Nines p e = e
+  kind-wider (Kind.Fixed n) p e = e
+  kind-wider Kind.Blanks p e = e
+  kind-wider Kind.Digits p e = e
+  kind-wider Kind.Optional p e = e
+  kind-wider Kind.Mandatory p e = e
+  kind-wider Kind.Date p e = e
+  kind-wider (Kind.Own o) p e = b o p e
+  kind-wider (Kind.Near n) p e = a n p e
+  kind-wider (Kind.AsBatch c) p e = e
+  kind-wider (Kind.Count t) p e = e
+  kind-wider (Kind.Hash t) p e = e
+  kind-wider (Kind.Total t) p e = e
+
 -- ---- request 2
 
 need-right : (b : Bool) (fault : Fault) (rest : Mark) → need b fault rest ≡ Mark.Right → (b ≡ true) × (rest ≡ Mark.Right)
@@ -149,26 +170,42 @@ near-wider s h r Near.Trace p e = trace-wider s h p e
 near-wider s h r Near.EntryTrace p e = e
 near-wider s h r Near.BatchNumber p e = e
 
-kind-wider : (s : Sums) (h r : List ℕ) (kind : Kind) (p : List ℕ) → kindUnskipped s h r kind p ≡ Mark.Right → kindRule s h r kind p ≡ Mark.Right
-kind-wider s h r Kind.Type p e = e
-kind-wider s h r Kind.Misplaced p e = e
-kind-wider s h r Kind.Past p e = e
-kind-wider s h r Kind.Nines p e = e
-kind-wider s h r (Kind.Fixed n) p e = e
-kind-wider s h r Kind.Blanks p e = e
-kind-wider s h r Kind.Digits p e = e
-kind-wider s h r Kind.Optional p e = e
-kind-wider s h r Kind.Mandatory p e = e
-kind-wider s h r Kind.Date p e = e
-kind-wider s h r (Kind.Own o) p e = e
-kind-wider s h r (Kind.Near n) p e = near-wider s h r n p e
-kind-wider s h r (Kind.AsBatch c) p e = e
-kind-wider s h r (Kind.Count t) p e = e
-kind-wider s h r (Kind.Hash t) p e = e
-kind-wider s h r (Kind.Total t) p e = e
-
 -- a file whose traces were accepted one by one is accepted still, with the same acceptance
 pub skips-keep : (way : Way) (f : List ℕ) → checkedBy unskipped way f .answer ≡ Answer.Granted → checkedOf way f ≡ checkedBy unskipped way f
 skips-keep way f e =
     sym (checked-now way f)
-    ∙ checked-kept unskipped fieldOf (λ s h r row. kind-wider s h r (row .kind) (columns (row .first) (row .last) r)) way f e
+    ∙ checked-kept unskipped fieldOf
+    (λ s h r row. kind-wider (nearUnskipped s h r) ownRule s h r (near-wider s h r) (λ o p e. e) (row .kind) (columns (row .first) (row .last) r)) way f e
+
+-- ---- request 3
+
+or-left : (a b : Bool) → a ≡ true → (a || b) ≡ true
+or-left a b e = rw e refl
+
+every-wider : (p q : ℕ → Bool) → ((b : ℕ) → p b ≡ true → q b ≡ true) → (xs : List ℕ) → every p xs ≡ true → every q xs ≡ true
+unfolding every
+every-wider p q w [] e = refl
+every-wider p q w (b ∷ bs) e = let both = and-both (p b) (every p bs) e in both-and (w b (both .0)) (every-wider p q w bs (both .1))
+
+account-wider : (p : List ℕ) → accountUnlettered p ≡ Mark.Right → account p ≡ Mark.Right
+account-wider p e =
+    let t = need-right (every isUnlettered p) Fault.Text _ e in
+    rw (every-wider isUnlettered isAccount (λ b. or-left (isUnlettered b) (leb 65 b && leb b 90)) p (t .0)) (t .1)
+
+own-wider : (o : Own) (p : List ℕ) → ownUnlettered o p ≡ Mark.Right → ownRule o p ≡ Mark.Right
+own-wider Own.Destination p e = e
+own-wider Own.Origin p e = e
+own-wider Own.Time p e = e
+own-wider Own.Modifier p e = e
+own-wider Own.Class p e = e
+own-wider Own.EntryClass p e = e
+own-wider Own.Bank p e = e
+own-wider Own.Account p e = account-wider p e
+own-wider Own.Flag p e = e
+
+-- a file that was accepted without letters in accounts is accepted still, with the same acceptance
+pub letters-keep : (way : Way) (f : List ℕ) → checkedBy unlettered way f .answer ≡ Answer.Granted → checkedOf way f ≡ checkedBy unlettered way f
+letters-keep way f e =
+    sym (checked-now way f)
+    ∙ checked-kept unlettered fieldOf
+    (λ s h r row. kind-wider (nearRule s h r) ownUnlettered s h r (λ n p e. e) own-wider (row .kind) (columns (row .first) (row .last) r)) way f e

@@ -1,22 +1,23 @@
 -- The rules as they stood before a request. "What one state accepts, the next accepts, with the same counts and totals" can be said
 -- only of both.
 use Prim.Native.Nat.{ℕ, _+_}
-use mathlib.Core.Bool.{Bool, _&&_}
+use mathlib.Core.Bool.{Bool, _&&_, _||_, not}
 use mathlib.Core.List.{List, [], _∷_, map}
 use lib.Dec.{leb, eqb}
 use lib.ListN.{length}
-use Rattle.text.specs.Decimal.{pick, digits}
+use Rattle.text.specs.Decimal.{pick, every, isDigit, digits}
 use Rattle.text.specs.Rows.{columns}
 use Rattle.text.specs.Same.{sameBytes}
 use Rattle.layout.specs.declared.Fault.{Fault}
 use Rattle.layout.specs.declared.Checked.{Checked}
 use Rattle.layout.specs.declared.Kind.{Kind}
 use Rattle.layout.specs.declared.Near.{Near}
+use Rattle.layout.specs.declared.Own.{Own}
 use Rattle.layout.specs.declared.Row.{Row}
 use Rattle.layout.specs.declared.Way.{Way}
 use Rattle.layout.specs.Fields.{rowsOf, firstField}
 use Rattle.kinds.specs.declared.Mark.{Mark}
-use Rattle.kinds.specs.Kinds.{need}
+use Rattle.kinds.specs.Kinds.{need, blank, unbroken, ownRule}
 use Rattle.rules.specs.declared.Sums.{Sums}
 use Rattle.rules.specs.Field.{traceBank, traceNumber, batchBank, nearRule, kindRule}
 use Rattle.records.specs.declared.State.{State}
@@ -49,6 +50,25 @@ abbrev pub checkedBy : Rule → Way → List ℕ → Checked
 checkedBy rule way f =
     pick (lengthFits way (length f)) (runBy rule start (map (pieceOf way) (rawRecords way f))) (refused Fault.Length 0 0)
 
+-- the rules, with these in the place of two groups of them
+abbrev pub kindWith : (Near → List ℕ → Mark) → (Own → List ℕ → Mark) → Sums → List ℕ → List ℕ → Kind → List ℕ → Mark
+kindWith near own s h r Kind.Type p = kindRule s h r Kind.Type p
+kindWith near own s h r Kind.Misplaced p = kindRule s h r Kind.Misplaced p
+kindWith near own s h r Kind.Past p = kindRule s h r Kind.Past p
+kindWith near own s h r Kind.Nines p = kindRule s h r Kind.Nines p
+kindWith near own s h r (Kind.Fixed n) p = kindRule s h r (Kind.Fixed n) p
+kindWith near own s h r Kind.Blanks p = kindRule s h r Kind.Blanks p
+kindWith near own s h r Kind.Digits p = kindRule s h r Kind.Digits p
+kindWith near own s h r Kind.Optional p = kindRule s h r Kind.Optional p
+kindWith near own s h r Kind.Mandatory p = kindRule s h r Kind.Mandatory p
+kindWith near own s h r Kind.Date p = kindRule s h r Kind.Date p
+kindWith near own s h r (Kind.Own o) p = own o p
+kindWith near own s h r (Kind.Near n) p = near n p
+kindWith near own s h r (Kind.AsBatch c) p = kindRule s h r (Kind.AsBatch c) p
+kindWith near own s h r (Kind.Count t) p = kindRule s h r (Kind.Count t) p
+kindWith near own s h r (Kind.Hash t) p = kindRule s h r (Kind.Hash t) p
+kindWith near own s h r (Kind.Total t) p = kindRule s h r (Kind.Total t) p
+
 -- ---- before request 2: "one more than before in each later entry"
 
 abbrev pub traceInTurn : Sums → ℕ → Bool
@@ -67,23 +87,28 @@ nearUnskipped s h r Near.Trace p = traceUnskipped s h p
 nearUnskipped s h r Near.EntryTrace p = nearRule s h r Near.EntryTrace p
 nearUnskipped s h r Near.BatchNumber p = nearRule s h r Near.BatchNumber p
 
-abbrev pub kindUnskipped : Sums → List ℕ → List ℕ → Kind → List ℕ → Mark
-kindUnskipped s h r Kind.Type p = kindRule s h r Kind.Type p
-kindUnskipped s h r Kind.Misplaced p = kindRule s h r Kind.Misplaced p
-kindUnskipped s h r Kind.Past p = kindRule s h r Kind.Past p
-kindUnskipped s h r Kind.Nines p = kindRule s h r Kind.Nines p
-kindUnskipped s h r (Kind.Fixed n) p = kindRule s h r (Kind.Fixed n) p
-kindUnskipped s h r Kind.Blanks p = kindRule s h r Kind.Blanks p
-kindUnskipped s h r Kind.Digits p = kindRule s h r Kind.Digits p
-kindUnskipped s h r Kind.Optional p = kindRule s h r Kind.Optional p
-kindUnskipped s h r Kind.Mandatory p = kindRule s h r Kind.Mandatory p
-kindUnskipped s h r Kind.Date p = kindRule s h r Kind.Date p
-kindUnskipped s h r (Kind.Own o) p = kindRule s h r (Kind.Own o) p
-kindUnskipped s h r (Kind.Near n) p = nearUnskipped s h r n p
-kindUnskipped s h r (Kind.AsBatch c) p = kindRule s h r (Kind.AsBatch c) p
-kindUnskipped s h r (Kind.Count t) p = kindRule s h r (Kind.Count t) p
-kindUnskipped s h r (Kind.Hash t) p = kindRule s h r (Kind.Hash t) p
-kindUnskipped s h r (Kind.Total t) p = kindRule s h r (Kind.Total t) p
-
 abbrev pub unskipped : Rule
-unskipped s h r row = kindUnskipped s h r (row .kind) (columns (row .first) (row .last) r)
+unskipped s h r row = kindWith (nearUnskipped s h r) ownRule s h r (row .kind) (columns (row .first) (row .last) r)
+
+-- ---- before request 3: no letters in an account
+
+abbrev pub isUnlettered : ℕ → Bool
+isUnlettered b = isDigit b || eqb b 45 || eqb b 32
+
+abbrev pub accountUnlettered : List ℕ → Mark
+accountUnlettered p =
+    need (every isUnlettered p) Fault.Text (need (not (blank p)) Fault.Blank (need (unbroken p) Fault.Leading Mark.Right))
+
+abbrev pub ownUnlettered : Own → List ℕ → Mark
+ownUnlettered Own.Destination p = ownRule Own.Destination p
+ownUnlettered Own.Origin p = ownRule Own.Origin p
+ownUnlettered Own.Time p = ownRule Own.Time p
+ownUnlettered Own.Modifier p = ownRule Own.Modifier p
+ownUnlettered Own.Class p = ownRule Own.Class p
+ownUnlettered Own.EntryClass p = ownRule Own.EntryClass p
+ownUnlettered Own.Bank p = ownRule Own.Bank p
+ownUnlettered Own.Account p = accountUnlettered p
+ownUnlettered Own.Flag p = ownRule Own.Flag p
+
+abbrev pub unlettered : Rule
+unlettered s h r row = kindWith (nearRule s h r) ownUnlettered s h r (row .kind) (columns (row .first) (row .last) r)

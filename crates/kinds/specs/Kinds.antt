@@ -119,16 +119,16 @@ entryClass p = need (sameBytes p (80 ∷ 80 ∷ 68 ∷ []) || sameBytes p (67 �
 abbrev pub bank : List ℕ → Mark
 bank p = need (digits p) Fault.Digits (need (leb (getD p 0 0) 51) Fault.Bank Mark.Right)
 
--- "digits, hyphens and blanks only (7)"
+-- "digits, hyphens and blanks only (7)"; "The account field takes A to Z as well. Lower case stays refused."
 abbrev pub isAccount : ℕ → Bool
-isAccount b = isDigit b || eqb b 45 || eqb b 32
+isAccount b = isDigit b || eqb b 45 || eqb b 32 || (leb 65 b && leb b 90)
 
 -- "no blank before a later non-blank (9)"
 unfoldable pub unbroken : List ℕ → Bool
 unbroken [] = true
 unbroken (b ∷ bs) = pick (eqb b 32) (blank bs) (unbroken bs)
 
--- record 6, field 5: "digits, hyphens and blanks only (7), not all blank (8), no blank before a later non-blank (9)"
+-- record 6, field 5: "digits, hyphens and blanks only (7)" and now letters, "not all blank (8), no blank before a later non-blank (9)"
 abbrev pub account : List ℕ → Mark
 account p =
     need (every isAccount p) Fault.Text (need (not (blank p)) Fault.Blank (need (unbroken p) Fault.Leading Mark.Right))

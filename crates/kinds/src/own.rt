@@ -133,7 +133,7 @@ pub fn bank(p: &[u8]) -> Mark
 fn is_account(b: u8) -> bool
     ensures { λ r. ⌜ r ≡ isAccount b ⌝ }
 {
-    text::is_digit(b) | (b == 45) | (b == 32)
+    text::is_digit(b) | (b == 45) | (b == 32) | ((65 <= b) & (b <= 90))
 }
 
 fn all_account(p: &[u8]) -> bool

@@ -69,6 +69,12 @@ pub record Edges : Type 0 where
   -- "account '12-3' then blanks passes; '12 3' is refused 9"
   pub hyphen : given (account (49 ∷ 50 ∷ 45 ∷ 51 ∷ replicate 13 32)) ≡ 0
   pub gap : given (account (49 ∷ 50 ∷ 32 ∷ 51 ∷ replicate 13 32)) ≡ 9
+  -- "The account field takes A to Z as well. Lower case stays refused": 'A-Z', and the bytes next to the letters; a letter behind a blank
+  pub letters : given (account (65 ∷ 45 ∷ 90 ∷ replicate 14 32)) ≡ 0
+  pub before-letters : given (account (64 ∷ replicate 16 32)) ≡ 7
+  pub behind-letters : given (account (91 ∷ replicate 16 32)) ≡ 7
+  pub lower-case : given (account (97 ∷ replicate 16 32)) ≡ 7
+  pub letter-gap : given (account (49 ∷ 32 ∷ 65 ∷ replicate 14 32)) ≡ 9
   -- "100 credits of 9,999,999,999 total 999,999,999,900 and fit; 101 total 1,009,999,999,899 and are refused 20"
   pub hundred : credits 100 ≡ 999999999900
   pub hundred-fit : given (totalRule (credits 100) (render 12 (credits 100))) ≡ 0
@@ -107,6 +113,11 @@ edges =
       prenote-cent = refl;
       hyphen = refl;
       gap = refl;
+      letters = refl;
+      before-letters = refl;
+      behind-letters = refl;
+      lower-case = refl;
+      letter-gap = refl;
       hundred = refl;
       hundred-fit = refl;
       one-more = refl;
