@@ -30,7 +30,7 @@ pub enum Own {
     EntryClass,
     /// Eight digits, the first of them 0 to 3.
     Bank,
-    /// Digits and hyphens, then blanks.
+    /// Capital letters, digits and hyphens, then blanks.
     Account,
     /// Whether an addendum follows.
     Flag,

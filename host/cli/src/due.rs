@@ -78,7 +78,9 @@ impl<'f> Place<'f> {
             Own::Class => words("200 (credits and debits), 220 (credits) or 225 (debits)"),
             Own::EntryClass => words("PPD or CCD"),
             Own::Bank => words("eight digits, the first of them 0 to 3"),
-            Own::Account => words("digits and hyphens from the first column on, then blanks"),
+            Own::Account => {
+                words("capital letters, digits and hyphens from the first column on, then blanks")
+            }
             Own::Flag => words("1 if an addendum follows, else 0"),
         }
     }

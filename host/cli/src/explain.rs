@@ -64,7 +64,8 @@ const ADVICE: [&str; 26] = [
     "Behind the file control only as many fillers stand as make the records a multiple of ten.",
     "Some columns hold the same in every file; a filler is 94 nines.",
     "Only 0 to 9 may stand here, with zeros in front.",
-    "Text has capital letters, digits and signs; account numbers have digits and hyphens.",
+    "Text has capital letters, digits and signs; account numbers have capital letters, digits and\n\
+     hyphens.",
     "This field says something in every file.",
     "Text begins in the first column of its field; an account number has no blank inside.",
     "Days are written YYMMDD, times HHMM from 0000 to 2359.",

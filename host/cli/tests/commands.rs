@@ -171,6 +171,27 @@ fn a_sum_beyond_the_limit() {
     run.is(1, "", &words);
 }
 
+/// Letters may stand in an account, but no small ones.
+#[test]
+fn a_small_letter_in_an_account() {
+    let folder = Folder::new();
+    let mut plan = generate::sample();
+    plan.batches[0].entries[0].account = "CU-7K2B".into();
+    let good = folder.with("good.ach", &plan.file());
+    ach!("check", good, "--line").is(0, "OK 1 2 1 0 12550\n", "");
+    plan.batches[0].entries[0].account = "CU-7k2B".into();
+    let bad = folder.with("bad.ach", &plan.file());
+    let words = format!(
+        "{}: refused, 7: a character stands here that is not allowed
+  where  record 3, type 6 entry 1, field 5 Account number, columns 13-29
+  stands \"CU-7k2B          \"
+  due    capital letters, digits and hyphens from the first column on, then blanks
+",
+        bad.display()
+    );
+    ach!("check", bad).is(1, "", &words);
+}
+
 /// A trace has to rise, and may skip: what is said of one that does not.
 #[test]
 fn a_trace_that_does_not_rise() {

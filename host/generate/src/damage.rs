@@ -6,9 +6,9 @@ use crate::random::Random;
 use crate::RECORD;
 
 /// Bytes that lie on both sides of the borders between digits, letters, text and the rest.
-pub const BORDER_BYTES: [u8; 24] = [
+pub const BORDER_BYTES: [u8; 25] = [
     0x00, b'\n', 0x1F, b' ', b'!', b'-', b'.', b'/', b'0', b'1', b'3', b'4', b'9', b':', b'@',
-    b'A', b'Z', b'`', b'a', b'z', b'{', b'~', 0x7F, 0xFF,
+    b'A', b'Z', b'[', b'`', b'a', b'z', b'{', b'~', 0x7F, 0xFF,
 ];
 
 const DATES: [&str; 16] = [
@@ -19,7 +19,7 @@ const TIMES: [&str; 10] =
     ["    ", "0000", "2359", "2400", "2360", "0060", "9999", "12  ", "  00", " 000"];
 const CLASSES: [&str; 8] = ["200", "220", "225", "199", "201", "221", "226", "280"];
 const ENTRY_CLASSES: [&str; 6] = ["PPD", "CCD", "CTX", "PPC", "ppd", "WEB"];
-const ACCOUNTS: [&str; 7] = [
+const ACCOUNTS: [&str; 15] = [
     "12-3             ",
     "12 3             ",
     "-                ",
@@ -27,6 +27,14 @@ const ACCOUNTS: [&str; 7] = [
     "-----------------",
     "1               1",
     "12345678901234567",
+    "AZ-09            ",
+    "A                ",
+    "                Z",
+    "ABCDEFGHIJKLMNOPQ",
+    "A               Z",
+    " AZ              ",
+    "az               ",
+    "A a              ",
 ];
 const AMOUNTS: [&str; 4] = ["0000000000", "0000000001", "9999999999", "1000000000"];
 

@@ -213,8 +213,10 @@ fn routing(random: &mut Random) -> u32 {
 }
 
 fn account(random: &mut Random) -> String {
+    const SIGNS: &[u8; 37] = b"0123456789-ABCDEFGHIJKLMNOPQRSTUVWXYZ";
+    let signs = if random.one_in(2) { SIGNS } else { &SIGNS[..11] };
     let length = 1 + random.below(17);
-    (0..length).map(|_| *random.pick(b"0123456789-") as char).collect()
+    (0..length).map(|_| *random.pick(signs) as char).collect()
 }
 
 fn date(random: &mut Random) -> String {

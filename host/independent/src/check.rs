@@ -323,7 +323,8 @@ fn check_routing(record: &Record) -> Result<u64, Fault> {
 fn check_account(record: &Record) -> Result<(), Fault> {
     use entry::ACCOUNT;
     let account = ACCOUNT.of(record);
-    let known = |byte: u8| byte.is_ascii_digit() | (byte == b'-') | (byte == b' ');
+    let sign = |byte: u8| byte.is_ascii_digit() | byte.is_ascii_uppercase();
+    let known = |byte: u8| sign(byte) | (byte == b'-') | (byte == b' ');
     ACCOUNT.require(all(account, known), reason::CHARACTER)?;
     ACCOUNT.require(!is_blank(account), reason::ALL_BLANK)?;
     // A blank somewhere before a non-blank means a blank right before one.

@@ -244,8 +244,13 @@ fn text_takes_everything_printable_but_small_letters() {
 fn columns_with_rules_of_their_own() {
     every_byte(1, 14, (11, 1, 4), |byte| byte == b' ' || byte.is_ascii_digit());
     every_byte(1, 34, (11, 1, 7), |byte| byte.is_ascii_uppercase() || byte.is_ascii_digit());
-    // The account's last sign; with a blank there it is a column shorter.
-    every_byte(3, 22, (7, 3, 5), |byte| byte == b' ' || byte == b'-' || byte.is_ascii_digit());
+    // The account's first sign, and its last; with a blank there it is a column shorter.
+    let in_account = |byte: u8| byte == b'-' || byte.is_ascii_digit() || byte.is_ascii_uppercase();
+    every_byte(3, 22, (7, 3, 5), |byte| byte == b' ' || in_account(byte));
+    for byte in (0..=255).filter(|byte| *byte != b' ') {
+        let expected = if in_account(byte) { Ok(()) } else { Err((7, 3, 5)) };
+        assert_eq!(verdict(&with_column(&whole(), 3, 13, byte)), expected, "{byte:#x}");
+    }
 }
 
 #[test]

@@ -108,6 +108,18 @@ pub fn gaps() -> Plan {
     plan
 }
 
+/// Members of a credit union, whose account numbers have letters: among digits and hyphens, alone,
+/// and in all columns.
+pub fn union() -> Plan {
+    let mut plan = sample();
+    plan.batches[0].entries = entries(&[
+        (22, 32_207_038, "CU-7K2B", 181_525, "E-0061", "QUILL, DORA"),
+        (32, 32_207_038, "SAVINGS", 25_000, "E-0061", "QUILL, DORA"),
+        (22, 5_300_021, "M0ABCDEFGHIJKLXYZ", 200_000, "E-0062", "STERN, IVO"),
+    ]);
+    plan
+}
+
 /// After the sample in source document 001, with the bank's number where the sample has blanks.
 pub fn loans() -> Plan {
     let bank = 55_555_555;

@@ -39,6 +39,7 @@ fn plans() -> Vec<(&'static str, Plan)> {
         ("staff", accepted::staff()),
         ("taxes", accepted::taxes()),
         ("gaps", accepted::gaps()),
+        ("union", accepted::union()),
     ]
 }
 

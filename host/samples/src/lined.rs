@@ -1,4 +1,4 @@
-//! Files with CR LF behind every record: two in order, and refused ones made from the first.
+//! Files with CR LF behind every record: three in order, and refused ones made from the first.
 
 use crate::{accepted, Sample};
 use generate::lines::with_end;
@@ -12,6 +12,7 @@ pub fn all() -> Vec<Sample> {
         ("refused/last-end-missing", with_end(&whole, 10, b"")),
         ("whole", whole),
         ("gaps", accepted::gaps().lined_file()),
+        ("union", accepted::union().lined_file()),
     ];
     files.map(|(name, bytes)| Sample { name: format!("{name}-lined.ach"), bytes }).into()
 }

@@ -15,6 +15,7 @@ pub fn all() -> Vec<Sample> {
         ("fillers-missing", whole[..7 * RECORD].to_vec()),
         ("second-control", with_second_control(&whole)),
         ("lower-case", with(3, 8, "Marlowe, Ada          ")),
+        ("account-lower-case", with(3, 5, "cu-7k2b          ")),
         ("blank-in-account", with(3, 5, "12 3             ")),
         ("no-such-day", with(2, 9, "010229")),
         ("check-digit", with(4, 4, "7")),

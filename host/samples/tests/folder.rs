@@ -61,7 +61,7 @@ fn every_file_has_its_line() {
 /// The same records as in their twins, two bytes more for each; in the other way it is refused.
 #[test]
 fn the_lined_samples_are_others_with_line_ends() {
-    for (name, records) in [("whole", 10), ("gaps", 20)] {
+    for (name, records) in [("whole", 10), ("gaps", 20), ("union", 10)] {
         let (file, twin) = (content(&format!("{name}-lined.ach")), content(&format!("{name}.ach")));
         assert_eq!((file.len(), twin.len()), (96 * records, 94 * records));
         for (line, record) in file.chunks(96).zip(twin.chunks(94)) {
@@ -80,6 +80,14 @@ fn traces_are_left_out() {
     let twice = content("refused/trace-twice.ach");
     let traces: Vec<&[u8]> = entries(&twice).iter().map(|entry| &entry[79..]).collect();
     assert_eq!(traces, [b"322070380000001"; 2]);
+}
+
+/// Among digits and hyphens, alone, and in all columns.
+#[test]
+fn letters_stand_in_accounts() {
+    let file = content("union.ach");
+    let accounts: Vec<&[u8]> = entries(&file).iter().map(|entry| &entry[12..29]).collect();
+    assert_eq!(accounts, [b"CU-7K2B          ", b"SAVINGS          ", b"M0ABCDEFGHIJKLXYZ"]);
 }
 
 fn entries(file: &[u8]) -> Vec<&[u8]> {
