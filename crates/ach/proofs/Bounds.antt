@@ -6,7 +6,7 @@ use mathlib.Core.List.{List, [], _∷_, map}
 use Prim.Native.Nat.{ℕ, _+_, _*_, _/_, _%_, _≤_, _<_}
 use native.Mathlib.Omega.{arith}
 use borrow.Author.Tests.{leb-true}
-use lib.Dec.{leb, eqb, lit≤}
+use lib.Dec.{lit<, leb, eqb, lit≤}
 use lib.IntN.{ℤ}
 use lib.ListN.{length-map, length}
 use Rattle.text.specs.Decimal.{pick}
@@ -40,9 +40,15 @@ use Rattle.view.proofs.BridgeWalk.{carry}
 use Rattle.finding.proofs.Places.{in-order}
 use Rattle.layout.specs.declared.Way.{Way}
 use Rattle.layout.specs.declared.Checked.{Checked}
+use Rattle.comma.specs.Grammar.{linesIn, sixFields, sixTexts}
+use Rattle.comma.specs.Entries.{fieldRight, fieldFault, try, textsVerdict, lineVerdict}
+use Rattle.comma.specs.Import.{lineAnswer, linesAnswer, importTable, rowsFit, importAnswer, importOf}
+use Rattle.comma.proofs.EntryLaws.{texts-many, lines-count}
+use Rattle.writing.specs.Judge.{writable}
+use Rattle.exporting.specs.Export.{exported, exportOf}
 
--- the paper's numbers are 1 to 25
-pub number-range : (f : Fault) → (1 ≤ numberOf f) × (numberOf f ≤ 26)
+-- the paper's numbers are 1 to 32
+pub number-range : (f : Fault) → (1 ≤ numberOf f) × (numberOf f ≤ 32)
 number-range Fault.Length = (lit≤ tt, lit≤ tt)
 number-range Fault.Ended = (lit≤ tt, lit≤ tt)
 number-range Fault.Misplaced = (lit≤ tt, lit≤ tt)
@@ -69,6 +75,9 @@ number-range Fault.Room = (lit≤ tt, lit≤ tt)
 number-range Fault.Shape = (lit≤ tt, lit≤ tt)
 number-range Fault.NoEntry = (lit≤ tt, lit≤ tt)
 number-range Fault.LineEnd = (lit≤ tt, lit≤ tt)
+number-range Fault.Comma = (lit≤ tt, lit≤ tt)
+number-range Fault.Cents = (lit≤ tt, lit≤ tt)
+number-range Fault.Long = (lit≤ tt, lit≤ tt)
 
 -- what is refused has a field and a record within these bounds
 pub record Bounded (x : Refusal) : Type 0 where
@@ -224,3 +233,64 @@ alter-low way f k a =
     let fits = accepted-view way f g .keeps .fits in
     low-demand (carries c a) amount last (record { field = lit≤ tt; number = omega (arith, order .0, order .1, order .2, fits) })
     λ y. limits-low v (spotOf v k) c (amountOf (entryAt v k)) a (omega (arith, order .1, order .2, fits)) (omega (arith, order .2, fits)))
+
+-- ---- client lists
+
+pub export-low : (t lines : List ℕ) → Low (exportOf t lines .gives .answer)
+export-low t lines =
+    low-made (andThen (writable t) (room (exported t) lines)) (exported t) lines
+    (low-then (writable t) (room (exported t) lines)
+    (low-demand (shaped t) (refusal Fault.Shape 0 0) (checkedOf Way.Plain (formed Way.Plain t) .answer) (low-whole Fault.Shape) λ h. check-low Way.Plain (formed Way.Plain t))
+    λ e. low-room (exported t) lines)
+
+-- a line's number stands for the record, and may be larger than that of any record: these bounds are those of a code's bits
+abbrev pub Coded : Answer → Type 0
+Coded Answer.Granted = Unit {0}
+Coded (Answer.Refused x) = (x .field ≤ 13) × (x .record .0 ≤ 4294967295)
+
+pub low-coded : (a : Answer) → Low a → Coded a
+low-coded Answer.Granted l = tt
+low-coded (Answer.Refused x) l = (l .field, omega (arith, l .number))
+
+coded-then : (a b : Answer) → Coded a → Coded b → Coded (andThen a b)
+coded-then Answer.Granted b l m = m
+coded-then (Answer.Refused x) b l m = l
+
+coded-made : (x : Answer) (result buffer : List ℕ) → Coded x → Coded (made x result buffer .gives .answer)
+coded-made Answer.Granted result buffer l = tt
+coded-made (Answer.Refused x) result buffer l = l
+
+texts-low : (k n : ℕ) (ps : List (List ℕ)) → k + length ps ≤ n → LowVerdict n (textsVerdict k ps)
+unfolding textsVerdict
+texts-low k n [] h = tt
+texts-low k n (p ∷ ps) h = go (fieldRight k p) (texts-low (k + 1) n ps (omega arith))
+  where
+    go : (b : Bool) → LowVerdict n (textsVerdict (k + 1) ps) → LowVerdict n (try b (fieldFault k) k (textsVerdict (k + 1) ps))
+    go true l = l
+    go false l = omega arith
+
+list-line-low : (l : List ℕ) → LowVerdict 14 (lineVerdict l)
+list-line-low l = go (sixFields l) (texts-low 1 14 (sixTexts l) (omega (arith, texts-many 5 l 0)))
+  where
+    go : (b : Bool) → LowVerdict 14 (textsVerdict 1 (sixTexts l)) → LowVerdict 14 (try b Fault.Comma 0 (textsVerdict 1 (sixTexts l)))
+    go true m = m
+    go false m = lit< tt
+
+lines-coded : (k : ℕ) (ls : List (List ℕ)) → k + length ls ≤ 4294967296 → Coded (linesAnswer k ls)
+unfolding linesAnswer
+lines-coded k [] h = tt
+lines-coded k (l ∷ ls) h = go (lineVerdict l) (list-line-low l) (lines-coded (k + 1) ls (omega arith))
+  where
+    go : (v : Verdict) → LowVerdict 14 v → Coded (linesAnswer (k + 1) ls) → Coded (lineAnswer v k (linesAnswer (k + 1) ls))
+    go Verdict.Passed low rest = rest
+    go (Verdict.Failed fault j) low rest = (omega arith, omega arith)
+
+pub import-coded : (filerow batchrow lines table : List ℕ) → length lines ≤ 4294967295 → Coded (importOf filerow batchrow lines table .gives .answer)
+import-coded filerow batchrow lines table h =
+    let t = importTable filerow batchrow lines in
+    let checked = checkedOf Way.Plain (formed Way.Plain t) .answer in
+    coded-made (andThen (importAnswer filerow batchrow lines) (room t table)) t table
+    (coded-then (importAnswer filerow batchrow lines) (room t table)
+    (coded-then (linesAnswer 1 (linesIn lines)) _ (lines-coded 1 (linesIn lines) (omega (arith, lines-count lines)))
+    (low-coded (demand (rowsFit filerow batchrow lines) (refusal Fault.Shape 0 0) checked) (low-demand (rowsFit filerow batchrow lines) (refusal Fault.Shape 0 0) checked (low-whole Fault.Shape) λ e. check-low Way.Plain (formed Way.Plain t))))
+    (low-coded (room t table) (low-room t table)))

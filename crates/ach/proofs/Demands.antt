@@ -99,8 +99,8 @@ module _ (way : Way) where
 
   -- It grants, or names the first refusal by number, record and field.
 
-  -- the answer is a grant, numbered 0, or a refusal, numbered 1 to 26
-  pub grants-or-names : (a : Answer) → ((a ≡ Answer.Granted) × (paperOf a .number ≡ 0)) ⊎ ((x : Refusal) × (a ≡ Answer.Refused x) × (1 ≤ paperOf a .number) × (paperOf a .number ≤ 26))
+  -- the answer is a grant, numbered 0, or a refusal, numbered 1 to 32
+  pub grants-or-names : (a : Answer) → ((a ≡ Answer.Granted) × (paperOf a .number ≡ 0)) ⊎ ((x : Refusal) × (a ≡ Answer.Refused x) × (1 ≤ paperOf a .number) × (paperOf a .number ≤ 32))
   grants-or-names Answer.Granted = inl (refl, refl)
   grants-or-names (Answer.Refused x) = inr (x, refl, number-range (x .fault) .0, number-range (x .fault) .1)
 

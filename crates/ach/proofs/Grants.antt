@@ -32,11 +32,11 @@ use Rattle.layout.specs.declared.Way.{Way}
 
 -- ---- the answer of what was made
 
-answered : (x : Answer) (result buffer : List ℕ) → made x result buffer .gives .answer ≡ x
+pub answered : (x : Answer) (result buffer : List ℕ) → made x result buffer .gives .answer ≡ x
 answered Answer.Granted result buffer = refl
 answered (Answer.Refused r) result buffer = refl
 
-made-refused : (x : Answer) (result buffer : List ℕ) (r : Refusal) → made x result buffer .gives .answer ≡ Answer.Refused r
+pub made-refused : (x : Answer) (result buffer : List ℕ) (r : Refusal) → made x result buffer .gives .answer ≡ Answer.Refused r
     → (made x result buffer .leaves ≡ buffer) × (made x result buffer .gives .length ≡ 0)
 made-refused Answer.Granted result buffer r e = not-granted (sym e)
 made-refused (Answer.Refused x) result buffer r e = (refl, refl)
@@ -51,7 +51,7 @@ pub write-leaves : (way : Way) (t file : List ℕ) (r : Refusal) → writeOf way
 write-leaves way t file r e =
     made-refused (demand (shaped t) (refusal Fault.Shape 0 0) (andThen (checkedOf way (formed way t) .answer) (room (formed way t) file))) (formed way t) file r e
 
-room-granted : (result buffer : List ℕ) → room result buffer ≡ Answer.Granted → length result ≤ length buffer
+pub room-granted : (result buffer : List ℕ) → room result buffer ≡ Answer.Granted → length result ≤ length buffer
 room-granted result buffer e = leb-true (length result) (length buffer) (demand-granted (leb (length result) (length buffer)) _ Answer.Granted e .0)
 
 -- ---- when it is granted

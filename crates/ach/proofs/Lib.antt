@@ -4,3 +4,7 @@ pub mod First
 pub mod Grants
 pub mod Demands
 pub mod Idle
+pub mod FieldBack
+pub mod LineBack
+pub mod RoundTrip
+pub mod Lists

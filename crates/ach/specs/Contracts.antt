@@ -11,6 +11,8 @@ use Rattle.layout.specs.declared.Altered.{Altered}
 use Rattle.layout.specs.declared.Way.{Way}
 use Rattle.finding.specs.declared.AskedSpan.{AskedSpan}
 use Rattle.records.specs.Run.{checkedOf}
+use Rattle.comma.specs.Import.{importOf}
+use Rattle.exporting.specs.Export.{exportOf}
 use Rattle.view.specs.Outcome.{readOf, writeOf, alterOf, addendumAnswer, addendumOf}
 
 -- check: the file f answered with r
@@ -28,6 +30,15 @@ Writes way t held r left = (r ≡ writeOf way t held .gives) × (left ≡ writeO
 -- alter: a lent file that held f and then holds `left`, its entry k and the new amount
 abbrev pub Alters : Way → List ℕ → ℕ → ℕ → Altered → List ℕ → Type 0
 Alters way f k amount r left = (r ≡ alterOf way f k amount .gives) × (left ≡ alterOf way f k amount .leaves)
+
+-- import: the two rows and the lines of a list, and a lent table that held `held` and then holds `left`
+abbrev pub Imports : List ℕ → List ℕ → List ℕ → List ℕ → Made → List ℕ → Type 0
+Imports filerow batchrow lines held r left =
+    (r ≡ importOf filerow batchrow lines held .gives) × (left ≡ importOf filerow batchrow lines held .leaves)
+
+-- export: the table t, and lent lines that held `held` and then hold `left`
+abbrev pub Exports : List ℕ → List ℕ → Made → List ℕ → Type 0
+Exports t held r left = (r ≡ exportOf t held .gives) × (left ≡ exportOf t held .leaves)
 
 -- addendum: the part of the file f that is handed back for entry k
 abbrev pub HandsOut : Way → List ℕ → ℕ → List ℕ → Type 0

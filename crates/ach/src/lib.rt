@@ -5,7 +5,7 @@ use layout::Checked;
 use layout::EntryNo;
 use layout::Made;
 use layout::Way;
-ghost use Rattle.ach.specs.Contracts.{Checks, Reads, Writes, Alters, HandsOut, Explains, Spans};
+ghost use Rattle.ach.specs.Contracts.{Checks, Reads, Writes, Alters, Imports, Exports, HandsOut, Explains, Spans};
 
 // A file is accepted exactly if it keeps the rules; else the first refusal is named.
 pub fn check(way: Way, file: &[u8]) -> Checked
@@ -33,6 +33,20 @@ pub fn alter(way: Way, file: &mut [u8], entry: EntryNo, amount: u64) -> Altered
     ensures { λ r. ⌜ Alters way (now (file .entry)) (entry .0) amount r (now (file .exit)) ⌝ }
 {
     altering::alter(way, file, entry, amount)
+}
+
+// The pay table of a client's comma lines, with the given rows for file and batch, written to the front of the lent table.
+pub fn import(filerow: &[u8], batchrow: &[u8], lines: &[u8], table: &mut [u8]) -> Made
+    ensures { λ r. ⌜ Imports (now (filerow .entry)) (now (batchrow .entry)) (now (lines .entry)) (now (table .entry)) r (now (table .exit)) ⌝ }
+{
+    importing::import(filerow, batchrow, lines, table)
+}
+
+// The comma lines of a pay table, written to the front of the lent lines.
+pub fn export(table: &[u8], lines: &mut [u8]) -> Made
+    ensures { λ r. ⌜ Exports (now (table .entry)) (now (lines .entry)) r (now (lines .exit)) ⌝ }
+{
+    exporting::export(table, lines)
 }
 
 // An entry's addendum, handed back as the part of the lent file that holds it, or its empty part.

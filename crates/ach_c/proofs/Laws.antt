@@ -13,7 +13,7 @@ use Rattle.layout.specs.Paper.{numberOf}
 use Rattle.ach.proofs.Bounds.{number-range}
 use Rattle.ach_c.specs.Boundary.{codeOfAnswer, numbersOf, numbersLeft, left}
 
-pub number-le : (f : Fault) → numberOf f ≤ 26
+pub number-le : (f : Fault) → numberOf f ≤ 32
 number-le f = number-range f .1
 
 -- what a granted check leaves in the lent numbers

@@ -4,14 +4,17 @@ use Prim.Native.Nat.{ℕ, _+_, _*_, _/_, _%_, _≤_}
 use mathlib.Core.Path.{_≡_, refl}
 use mathlib.Core.Logic.{_↔_}
 use mathlib.Core.List.{List}
+use lib.ListN.{length}
 use native.Mathlib.Omega.{arith}
 use Rattle.layout.specs.declared.Answer.{Answer}
 use Rattle.layout.specs.Paper.{paperOf}
 use Rattle.records.specs.Run.{checkedOf}
 use Rattle.view.specs.Outcome.{readOf, writeOf, alterOf, addendumAnswer}
+use Rattle.comma.specs.Import.{importOf}
+use Rattle.exporting.specs.Export.{exportOf}
 use Rattle.view.proofs.Answers.{not-granted}
 use Rattle.layout.specs.declared.Way.{Way}
-use Rattle.ach.proofs.Bounds.{Low, number-range, check-low, read-low, write-low, alter-low, addendum-low}
+use Rattle.ach.proofs.Bounds.{Coded, low-coded, number-range, import-coded, export-low, check-low, read-low, write-low, alter-low, addendum-low}
 use Rattle.ach_c.specs.Boundary.{codeOfAnswer}
 
 -- the code c gives the three numbers back, and is 0 exactly if it is granted
@@ -22,7 +25,7 @@ pub record Told (c : ℕ) (a : Answer) : Type 0 where
   pub granted : (c ≡ 0) ↔ (a ≡ Answer.Granted)
 
 -- three small numbers, packed and unpacked
-module _ (n f r : ℕ) (p : n ≤ 26) (q : f ≤ 13) (l : r ≤ 1000001) where
+module _ (n f r : ℕ) (p : n ≤ 32) (q : f ≤ 13) (l : r ≤ 4294967295) where
   abbrev code : ℕ
   code = n + 256 * (f % 256) + 65536 * (r % 4294967296)
 
@@ -32,30 +35,38 @@ module _ (n f r : ℕ) (p : n ≤ 26) (q : f ≤ 13) (l : r ≤ 1000001) where
   not-zero : 1 ≤ n → code ≡ 0 → ⊥
   not-zero m e = omega (arith, m, e)
 
-told : (a : Answer) → Low a → Told (codeOfAnswer a) a
+told : (a : Answer) → Coded a → Told (codeOfAnswer a) a
 told Answer.Granted l = record { number = refl; field-no = refl; record-no = refl; granted = (λ e. refl, λ e. refl) }
 told (Answer.Refused x) l =
     let n = number-range (x .fault) in
-    let u = unpacked _ (x .field) (x .record .0) (n .1) (l .field) (l .number) in
+    let u = unpacked _ (x .field) (x .record .0) (n .1) (l .0) (l .1) in
     record {
       number = u .0;
       field-no = u .1;
       record-no = u .2;
-      granted = (λ e. absurd (not-zero _ (x .field) (x .record .0) (n .1) (l .field) (l .number) (n .0) e), not-granted);
+      granted = (λ e. absurd (not-zero _ (x .field) (x .record .0) (n .1) (l .0) (l .1) (n .0) e), not-granted);
     }
 
--- so it is with each of the five functions
+-- so it is with each of the seven functions
 pub check-told : (way : Way) (f : List ℕ) → Told (codeOfAnswer (checkedOf way f .answer)) (checkedOf way f .answer)
-check-told way f = told (checkedOf way f .answer) (check-low way f)
+check-told way f = told (checkedOf way f .answer) (low-coded (checkedOf way f .answer) (check-low way f))
 
 pub read-told : (way : Way) (f table : List ℕ) → Told (codeOfAnswer (readOf way f table .gives .answer)) (readOf way f table .gives .answer)
-read-told way f table = told (readOf way f table .gives .answer) (read-low way f table)
+read-told way f table = told (readOf way f table .gives .answer) (low-coded (readOf way f table .gives .answer) (read-low way f table))
 
 pub write-told : (way : Way) (t file : List ℕ) → Told (codeOfAnswer (writeOf way t file .gives .answer)) (writeOf way t file .gives .answer)
-write-told way t file = told (writeOf way t file .gives .answer) (write-low way t file)
+write-told way t file = told (writeOf way t file .gives .answer) (low-coded (writeOf way t file .gives .answer) (write-low way t file))
 
 pub alter-told : (way : Way) (f : List ℕ) (k a : ℕ) → Told (codeOfAnswer (alterOf way f k a .gives .answer)) (alterOf way f k a .gives .answer)
-alter-told way f k a = told (alterOf way f k a .gives .answer) (alter-low way f k a)
+alter-told way f k a = told (alterOf way f k a .gives .answer) (low-coded (alterOf way f k a .gives .answer) (alter-low way f k a))
 
 pub addendum-told : (way : Way) (f : List ℕ) (k : ℕ) → Told (codeOfAnswer (addendumAnswer way f k)) (addendumAnswer way f k)
-addendum-told way f k = told (addendumAnswer way f k) (addendum-low way f k)
+addendum-told way f k = told (addendumAnswer way f k) (low-coded (addendumAnswer way f k) (addendum-low way f k))
+
+-- of importing while a line's number is below 2 ^ 32
+pub import-told : (filerow batchrow lines table : List ℕ) → length lines ≤ 4294967295
+    → Told (codeOfAnswer (importOf filerow batchrow lines table .gives .answer)) (importOf filerow batchrow lines table .gives .answer)
+import-told filerow batchrow lines table h = told (importOf filerow batchrow lines table .gives .answer) (import-coded filerow batchrow lines table h)
+
+pub export-told : (t lines : List ℕ) → Told (codeOfAnswer (exportOf t lines .gives .answer)) (exportOf t lines .gives .answer)
+export-told t lines = told (exportOf t lines .gives .answer) (low-coded (exportOf t lines .gives .answer) (export-low t lines))

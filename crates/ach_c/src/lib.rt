@@ -7,6 +7,8 @@ ghost use mathlib.Core.Path.{_≡_};
 ghost use lib.Seq.{sets};
 ghost use Rattle.records.specs.Run.{checkedOf};
 ghost use Rattle.ach_c.specs.Boundary.{wayOf, codeOfAnswer, numbersOf, numbersLeft, left};
+ghost use Rattle.comma.specs.Import.{importOf};
+ghost use Rattle.exporting.specs.Export.{exportOf};
 ghost use Rattle.view.specs.Outcome.{readOf, writeOf, alterOf, addendumAnswer, addendumOf};
 
 // The way of a file, told by a number.
@@ -17,7 +19,7 @@ fn way_of(number: u64) -> Way
 }
 
 fn packed(number: u64, field: u64, record: u64) -> u64
-    requires { ⌜ number ≤ 26 ⌝ }
+    requires { ⌜ number ≤ 32 ⌝ }
     ensures { λ r. ⌜ r ≡ number + 256 * (field % 256) + 65536 * («record» % 4294967296) ⌝ }
 {
     number + 256 * (field % 256) + 65536 * (record % 4_294_967_296)
@@ -85,6 +87,38 @@ pub extern "C" fn ach_write(way: u64, table: &[u8], file: &mut [u8], length: &mu
     ensures { λ r. ⌜ (r ≡ codeOfAnswer (writeOf (wayOf way) (now (table .entry)) (now (file .entry)) .gives .answer)) × (now (file .exit) ≡ writeOf (wayOf way) (now (table .entry)) (now (file .entry)) .leaves) × (now (length .exit) ≡ left (writeOf (wayOf way) (now (table .entry)) (now (file .entry)) .gives .answer) (writeOf (wayOf way) (now (table .entry)) (now (file .entry)) .gives .length) (now (length .entry))) ⌝ }
 {
     let made = ach::write(way_of(way), table, file);
+    let answer = made.answer;
+    if let Answer::Granted = answer {
+        *length = made.length;
+        return 0;
+    }
+    code_of(answer)
+}
+
+#[no_mangle]
+pub extern "C" fn ach_import(
+    filerow: &[u8],
+    batchrow: &[u8],
+    lines: &[u8],
+    table: &mut [u8],
+    length: &mut u64,
+) -> u64
+    ensures { λ r. ⌜ (r ≡ codeOfAnswer (importOf (now (filerow .entry)) (now (batchrow .entry)) (now (lines .entry)) (now (table .entry)) .gives .answer)) × (now (table .exit) ≡ importOf (now (filerow .entry)) (now (batchrow .entry)) (now (lines .entry)) (now (table .entry)) .leaves) × (now (length .exit) ≡ left (importOf (now (filerow .entry)) (now (batchrow .entry)) (now (lines .entry)) (now (table .entry)) .gives .answer) (importOf (now (filerow .entry)) (now (batchrow .entry)) (now (lines .entry)) (now (table .entry)) .gives .length) (now (length .entry))) ⌝ }
+{
+    let made = ach::import(filerow, batchrow, lines, table);
+    let answer = made.answer;
+    if let Answer::Granted = answer {
+        *length = made.length;
+        return 0;
+    }
+    code_of(answer)
+}
+
+#[no_mangle]
+pub extern "C" fn ach_export(table: &[u8], lines: &mut [u8], length: &mut u64) -> u64
+    ensures { λ r. ⌜ (r ≡ codeOfAnswer (exportOf (now (table .entry)) (now (lines .entry)) .gives .answer)) × (now (lines .exit) ≡ exportOf (now (table .entry)) (now (lines .entry)) .leaves) × (now (length .exit) ≡ left (exportOf (now (table .entry)) (now (lines .entry)) .gives .answer) (exportOf (now (table .entry)) (now (lines .entry)) .gives .length) (now (length .entry))) ⌝ }
+{
+    let made = ach::export(table, lines);
     let answer = made.answer;
     if let Answer::Granted = answer {
         *length = made.length;

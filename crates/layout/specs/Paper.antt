@@ -57,6 +57,12 @@ numberOf Fault.Shape = 24
 numberOf Fault.NoEntry = 25
 -- a record not followed by CR LF
 numberOf Fault.LineEnd = 26
+-- a line that is not six fields in the RFC's grammar
+numberOf Fault.Comma = 29
+-- a line's amount not in its form or over 9,999,999,999 cents
+numberOf Fault.Cents = 30
+-- another field of a line too long for its columns
+numberOf Fault.Long = 32
 
 -- what the paper prints of an answer: number, record, field; all 0 where it is granted
 pub record Paper : Type 0 where

@@ -47,6 +47,9 @@ pub enum Fault {
     Shape,
     NoEntry,
     LineEnd,
+    Comma,
+    Cents,
+    Long,
 }
 
 pub struct Refusal {
@@ -671,6 +674,9 @@ pub fn number_of(fault: Fault) -> u64
         Fault::Shape => 24,
         Fault::NoEntry => 25,
         Fault::LineEnd => 26,
+        Fault::Comma => 29,
+        Fault::Cents => 30,
+        Fault::Long => 32,
     }
 }
 

@@ -16,7 +16,7 @@ ghost use Rattle.reading.specs.Passes.{between, rowOf, rowBytes, countAf
 ghost use Rattle.reading.specs.Puts.{Puts, Room};
 
 // Writes bytes `from` to `end` of a record at `to`, and gives the place behind them.
-fn put_part(rec: &[u8], from: usize, end: usize, table: &mut [u8], to: usize) -> usize
+pub fn put_part(rec: &[u8], from: usize, end: usize, table: &mut [u8], to: usize) -> usize
     requires { ⌜ (from ≤ end) × (end ≤ length (now rec)) × Room (between from end (now rec)) (now table) to ⌝ }
     ensures { λ r. ⌜ Puts (between from end (now (rec .entry))) (now (table .entry)) (now (table .exit)) to r ⌝ }
 {
@@ -25,7 +25,7 @@ fn put_part(rec: &[u8], from: usize, end: usize, table: &mut [u8], to: usize) ->
 }
 
 // Writes a count in six digits.
-fn put_count(count: u64, table: &mut [u8], to: usize) -> usize
+pub fn put_count(count: u64, table: &mut [u8], to: usize) -> usize
     requires { ⌜ Room (render 6 count) (now table) to ⌝ }
     ensures { λ r. ⌜ Puts (render 6 count) (now (table .entry)) (now (table .exit)) to r ⌝ }
 {

@@ -1,1 +1,2 @@
 pub mod Forming
+pub mod Judge

@@ -9,23 +9,23 @@ ghost use Prim.Native.Nat.{_≤_};
 ghost use mathlib.Core.Path.{_≡_};
 ghost use mathlib.Core.Bool.{true};
 ghost use lib.ListN.{length};
-ghost use Rattle.layout.specs.declared.Made.{Made};
 ghost use Rattle.view.specs.View.{recordsOf};
 ghost use Rattle.view.specs.Table.{shaped, viewOfTable};
-ghost use Rattle.view.specs.Outcome.{refusal, writeOf};
+ghost use Rattle.view.specs.Outcome.{writeOf};
+ghost use Rattle.writing.specs.Judge.{writable};
 
-mod pass;
+pub mod pass;
 mod walk;
 
 // Where the walk along a table has got to: the batches to come and the next one's row, the entries left in this batch, the next
 // entry's row, the row of the entry before it, and the next addendum.
-struct Cursor {
-    batches: usize,
-    batch: usize,
-    left: usize,
-    entry: usize,
-    last: usize,
-    text: usize,
+pub struct Cursor {
+    pub batches: usize,
+    pub batch: usize,
+    pub left: usize,
+    pub entry: usize,
+    pub last: usize,
+    pub text: usize,
 }
 
 // How many records the formed file has, filler included.
@@ -38,14 +38,17 @@ fn records_in(table: &[u8]) -> usize
     n + (10 - n % 10) % 10
 }
 
-// Refused with no record and no field.
-fn unmade(fault: Fault) -> Made
-    ensures { λ r. ⌜ r ≡ record { answer = refusal fault 0 0; length = 0 } ⌝ }
+// What writing says to a table before it asks for room: the shape's refusal, then those of the formed file.
+pub fn judge(table: &[u8]) -> Answer
+    ensures { λ r. ⌜ r ≡ writable (now (table .entry)) ⌝ }
 {
-    Made {
-        answer: pass::refused(fault, 0, 0),
-        length: 0,
+    if !shape::shaped(table) {
+        return pass::refused(Fault::Shape, 0, 0);
     }
+    if 1_000_000 < records_in(table) {
+        return pass::refused(Fault::Length, 0, 0);
+    }
+    pass::judged(table)
 }
 
 // Forms the table's file in front of the lent bytes. A refusal leaves them as they are: the shape's comes first, then those of the
@@ -53,22 +56,18 @@ fn unmade(fault: Fault) -> Made
 pub fn write(way: Way, table: &[u8], file: &mut [u8]) -> Made
     ensures { λ r. ⌜ (r ≡ writeOf way (now (table .entry)) (now (file .entry)) .gives) × (now (file .exit) ≡ writeOf way (now (table .entry)) (now (file .entry)) .leaves) ⌝ }
 {
-    if !shape::shaped(table) {
-        return unmade(Fault::Shape);
-    }
-    let count = records_in(table);
-    if 1_000_000 < count {
-        return unmade(Fault::Length);
-    }
-    if let Answer::Refused(refusal) = pass::judged(table) {
+    if let Answer::Refused(refusal) = judge(table) {
         return Made {
             answer: Answer::Refused(refusal),
             length: 0,
         };
     }
-    let size = layout::record_bytes(way) * count;
+    let size = layout::record_bytes(way) * records_in(table);
     if file.len() < size {
-        return unmade(Fault::Room);
+        return Made {
+            answer: pass::refused(Fault::Room, 0, 0),
+            length: 0,
+        };
     }
     pass::put_formed(way, table, file);
     Made {

@@ -27,7 +27,7 @@ ghost use Rattle.view.specs.Outcome.{refusal};
 ghost use Rattle.forming.specs.Sections.{sizeBy};
 ghost use Rattle.writing.specs.Forming.{firstOf};
 
-pub(crate) fn refused(fault: Fault, number: u64, k: u64) -> Answer
+pub fn refused(fault: Fault, number: u64, k: u64) -> Answer
     ensures { λ r. ⌜ r ≡ refusal fault number k ⌝ }
 {
     Answer::Refused(Refusal {

@@ -109,6 +109,18 @@ enum-told-25 c = search needs
 enum-told-26 : tie.Need-enum-told-26
 enum-told-26 c = search needs
 
+-- src/lib.rt:673:27
+enum-told-27 : tie.Need-enum-told-27
+enum-told-27 c = search needs
+
+-- src/lib.rt:673:27
+enum-told-28 : tie.Need-enum-told-28
+enum-told-28 c = search needs
+
+-- src/lib.rt:673:27
+enum-told-29 : tie.Need-enum-told-29
+enum-told-29 c = search needs
+
 -- src/lib.rt:644:1
 returns : tie.Need-returns
 returns c = rw (c .enum-told .given .1) refl
@@ -213,6 +225,18 @@ returns-25 c = rw (c .enum-told25 .given .1) refl
 returns-26 : tie.Need-returns-26
 returns-26 c = rw (c .enum-told26 .given .1) refl
 
+-- src/lib.rt:644:1
+returns-27 : tie.Need-returns-27
+returns-27 c = rw (c .enum-told27 .given .1) refl
+
+-- src/lib.rt:644:1
+returns-28 : tie.Need-returns-28
+returns-28 c = rw (c .enum-told28 .given .1) refl
+
+-- src/lib.rt:644:1
+returns-29 : tie.Need-returns-29
+returns-29 c = rw (c .enum-told29 .given .1) refl
+
 pub number-of-spec : {M : Type 1} → statement M
 number-of-spec =
     tie.close
@@ -243,6 +267,9 @@ number-of-spec =
     enum-told-24
     enum-told-25
     enum-told-26
+    enum-told-27
+    enum-told-28
+    enum-told-29
     returns
     returns-2
     returns-3
@@ -268,4 +295,7 @@ number-of-spec =
     returns-23
     returns-24
     returns-25
-    returns-26)
+    returns-26
+    returns-27
+    returns-28
+    returns-29)

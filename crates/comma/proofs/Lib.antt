@@ -1,0 +1,3 @@
+pub mod CellLaws
+pub mod AmountLaws
+pub mod EntryLaws

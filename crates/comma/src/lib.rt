@@ -1,0 +1,39 @@
+// Lists of clients as comma lines: RFC 4180's fields and lines, and the entry that a line becomes.
+use records::Verdict;
+
+mod cells;
+pub mod entries;
+
+// How far the field at hand has got: nothing of it yet, inside a field without quotes, between quotes, behind a quote that closes or
+// is the first of two, or it cannot go on.
+pub enum Scan {
+    Fresh,
+    Plain,
+    Quoted,
+    Quote,
+    Stuck,
+}
+
+// The field at the front of some bytes: how many they are, and whether it may end there.
+pub struct Cell {
+    pub size: usize,
+    pub whole: bool,
+}
+
+// What trying a line gives: its first fault, and where there is none the bytes that it has.
+pub struct Tried {
+    pub verdict: Verdict,
+    pub size: usize,
+}
+
+// An amount: whether it has the form and the columns for it, and its cents.
+pub struct Amount {
+    pub right: bool,
+    pub cents: u64,
+}
+
+// The row of a line's entry, and the bytes of the line.
+pub struct Placed {
+    pub row: [u8; 93],
+    pub size: usize,
+}

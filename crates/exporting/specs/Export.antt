@@ -1,0 +1,71 @@
+-- Exporting: "The export of a table that document 01 would write puts every field in quotes, drops trailing blanks and the amount's
+-- leading zeros down to one digit before the point, and ends each line with CR LF".
+use Prim.Native.Nat.{ℕ}
+use mathlib.Core.Bool.{_&&_}
+use mathlib.Core.List.{List, [], _∷_, _++_, map}
+use lib.Dec.{ltb, eqb}
+use lib.ListN.{length, take, drop}
+use Rattle.text.specs.Decimal.{pick}
+use Rattle.text.specs.Rows.{columns, joined, rows}
+use Rattle.layout.specs.declared.Made.{Made}
+use Rattle.layout.specs.Fields.{entry, part}
+use Rattle.view.specs.Table.{entryWide, entryPart, rowsIn}
+use Rattle.view.specs.Outcome.{Outcome, andThen, made, room}
+use Rattle.writing.specs.Judge.{writable}
+
+-- "drops trailing blanks": a byte before what is left of those behind it, where nothing is left a blank goes too
+abbrev pub inFront : ℕ → List ℕ → List ℕ
+inFront b [] = pick (eqb b 32) [] (b ∷ [])
+inFront b (c ∷ cs) = b ∷ c ∷ cs
+
+unfoldable pub trimmed : List ℕ → List ℕ
+trimmed [] = []
+trimmed (b ∷ bs) = inFront b (trimmed bs)
+
+-- "a quote inside a field is doubled"
+abbrev pub escaped : ℕ → List ℕ
+escaped b = pick (eqb b 34) (34 ∷ 34 ∷ []) (b ∷ [])
+
+unfoldable pub doubled : List ℕ → List ℕ
+doubled [] = []
+doubled (b ∷ bs) = escaped b ++ doubled bs
+
+-- "escaped = DQUOTE *(..) DQUOTE"
+abbrev pub quoted : List ℕ → List ℕ
+quoted p = 34 ∷ (doubled p ++ (34 ∷ []))
+
+-- "drops .. the amount's leading zeros down to one digit before the point"
+unfoldable pub unpadded : List ℕ → List ℕ
+unpadded [] = []
+unpadded (b ∷ bs) = pick (eqb b 48 && ltb 0 (length bs)) (unpadded bs) (b ∷ bs)
+
+-- an amount of ten digits: eight before the point, two behind it
+abbrev pub amountText : List ℕ → List ℕ
+amountText p = unpadded (take 8 p) ++ (46 ∷ drop 8 p)
+
+-- "A line holds code, nine-digit routing number, account, amount, identification and name": of the record 6 r
+abbrev pub lineFields : List ℕ → List (List ℕ)
+lineFields r =
+    trimmed (part entry 2 r) ∷ trimmed (columns 4 12 r) ∷ trimmed (part entry 5 r) ∷ amountText (part entry 6 r)
+    ∷ trimmed (part entry 7 r) ∷ trimmed (part entry 8 r) ∷ []
+
+-- fields in quotes with commas between them, and CR LF
+unfoldable pub commaLine : List (List ℕ) → List ℕ
+commaLine [] = []
+commaLine (p ∷ []) = quoted p ++ (13 ∷ 10 ∷ [])
+commaLine (p ∷ q ∷ ps) = quoted p ++ (44 ∷ commaLine (q ∷ ps))
+
+abbrev pub lineOfRow : List ℕ → List ℕ
+lineOfRow row = commaLine (lineFields (54 ∷ row))
+
+-- the lines of n entry rows, the first of which stands at a byte of the table
+abbrev pub linesAt : List ℕ → ℕ → ℕ → List ℕ
+linesAt t at n = joined (map lineOfRow (rows entryWide n (drop at t)))
+
+-- a line for each entry of the table, in order
+abbrev pub exported : List ℕ → List ℕ
+exported t = joined (map lineOfRow (rowsIn entryWide (entryPart t)))
+
+-- "a table that document 01 would write", in either way; "Export's refusals are writing's, then 23"
+abbrev pub exportOf : List ℕ → List ℕ → Outcome Made
+exportOf t lines = made (andThen (writable t) (room (exported t) lines)) (exported t) lines

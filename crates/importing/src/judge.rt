@@ -1,0 +1,49 @@
+// The check of the file that the table will form.
+use crate::walk;
+use layout::Answer;
+use records::Verdict;
+use records::order;
+use records::step;
+use records::tally;
+use writing::pass;
+ghost use Prim.Native.Nat.{_≤_};
+ghost use mathlib.Core.Path.{_≡_};
+ghost use lib.ListN.{length};
+ghost use Rattle.layout.specs.declared.Answer.{Answer};
+ghost use Rattle.layout.specs.declared.Way.{Way};
+ghost use Rattle.records.specs.Run.{checkedOf};
+ghost use Rattle.view.specs.Table.{formed};
+ghost use Rattle.comma.specs.Grammar.{linesIn};
+ghost use Rattle.comma.specs.Import.{linesAnswer, importTable};
+
+// What the check of the formed file answers, in either way. Nothing is written.
+pub(crate) fn judged(filerow: &[u8], batchrow: &[u8], lines: &[u8], count: usize) -> Answer
+    requires { ⌜ (length (now filerow) ≡ 85) × (length (now batchrow) ≡ 95) × (linesAnswer 1 (linesIn (now lines)) ≡ Answer.Granted) × (count ≡ length (linesIn (now lines))) × (count ≤ 999996) ⌝ }
+    ensures { λ r. ⌜ r ≡ checkedOf Way.Plain (formed Way.Plain (importTable (now (filerow .entry)) (now (batchrow .entry)) (now (lines .entry)))) .answer ⌝ }
+{
+    let mut c = walk::opened(count);
+    let mut st = tally::start();
+    let mut at = 0;
+    let mut number = 1;
+    loop {
+        let place = st.place;
+        let sums = st.sums;
+        if order::complete(place, sums.records) {
+            return Answer::Granted;
+        }
+        let due = walk::entry_due(place, c.left);
+        let next = walk::next_line(lines, at, &batchrow[74..82], number, due);
+        let row = next.row;
+        let rec = walk::form(filerow, batchrow, &row, c, st);
+        let tried = step::check(st, &rec);
+        let verdict = tried.verdict;
+        if let Verdict::Failed(fault, k) = verdict {
+            return pass::refused(fault, sums.records + 1, k);
+        }
+        c = walk::past(count, c, place);
+        let state = tried.state;
+        st = state;
+        at = next.at;
+        number = next.number;
+    }
+}
