@@ -7,7 +7,9 @@
  * included. A pay table holds the same payments without what follows from them
  * (counts, hashes, totals, fillers): a section each for the file's header, the
  * batches, the entries and the addenda, each after its count of six digits. A
- * table holds no line ends; it is the same for both ways of its file.
+ * table holds no line ends; it is the same for both ways of its file. A client's
+ * list holds payments as comma lines; it becomes a table by ach_import, and
+ * ach_export makes a list of a table's entries.
  *
  * Any bytes of any length may be lent, and every function does its own
  * checking. No function keeps anything between calls or allocates memory, so
@@ -24,9 +26,10 @@ extern "C" {
 #endif
 
 /*
- * The way of a file, the first parameter of every function. The caller tells
- * it, and nothing guesses it. 0 is the first way; every other number is the
- * second. Columns, fields and record numbers are the same in both.
+ * The way of a file, the first parameter of every function that takes or makes
+ * one. The caller tells it, and nothing guesses it. 0 is the first way; every
+ * other number is the second. Columns, fields and record numbers are the same in
+ * both.
  */
 #define ACH_PLAIN 0 /* records of 94 bytes, back to back */
 #define ACH_LINED 1 /* records of 96 bytes, the last two CR LF */
@@ -40,10 +43,11 @@ extern "C" {
  *
  *     number + 256 * field + 65536 * record
  *
- * where number (1 to 26) says why, and record and field, counted from 1, say
- * where; they are 0 where there is no place to name. A refusal leaves every
- * byte and every number that was lent as it was. What is lent to one call
- * must not overlap.
+ * where number says why, and record and field, counted from 1, say where; they
+ * are 0 where there is no place to name. For a line of a list (29, 30 and 32)
+ * the line's number, from 1 too, stands for the record. A refusal leaves every
+ * byte and every number that was lent as it was. What is lent to one call must
+ * not overlap.
  */
 #define ACH_NUMBER(answer) ((unsigned)((answer) & 0xFF))
 #define ACH_FIELD(answer)  ((unsigned)((answer) >> 8 & 0xFF))
@@ -66,11 +70,16 @@ extern "C" {
  *  12 check digit                    25 no such entry
  *  13 bank begins with 4 to 9        26 record not followed by CR LF
  *
+ *  29 line of a list is not six fields in the grammar of RFC 4180
+ *  30 amount of a line not in its form, or over 9,999,999,999 cents
+ *  32 another field of a line too long for its columns
+ *
  * The first refusal in the file is given: by record, then by field, then by
  * number. 1 is a length of 0, no multiple of the record's 94 or 96 bytes, or
  * over a million records; so is the lack of the last CR LF. 26 is given in the
  * second way alone, with field 0: after all fields of its record, and before
- * everything of the next one. The record that 4 names is not looked at.
+ * everything of the next one. The record that 4 names is not looked at. 29, 30
+ * and 32 are given by ach_import alone.
  */
 
 /* Where the numbers of an acceptance stand. */
@@ -133,6 +142,60 @@ uint64_t ach_alter(uint64_t way, uint8_t *file, size_t n, uint64_t entry,
  */
 uint64_t ach_addendum(uint64_t way, const uint8_t *file, size_t n,
                       uint64_t entry, uint64_t *start, uint64_t *length);
+
+/* The lengths of the two rows that a list is imported with. */
+#define ACH_FILEROW_LENGTH  85 /* columns 4-34 and 41-94 of record 1 */
+#define ACH_BATCHROW_LENGTH 95 /* columns 2-75 and 80-94 of record 5, and the
+                                  number of entries in six digits */
+
+/*
+ * Makes the pay table of a client's list, the n bytes at `lines`, in the `room`
+ * bytes at `table`. The list is comma lines in the grammar of RFC 4180, without
+ * a header line: bytes 0x20 to 0x7E, in quotes also CR and LF, a quote inside
+ * quotes doubled, CR LF between lines. CR LF at the very end starts no line, and
+ * no bytes are no lines. A line has six fields:
+ *
+ *   1 code (2 columns)        4 amount: one or more digits, a point, two digits
+ *   2 routing number (9)      5 identification (15)
+ *   3 account (17)            6 name (22)
+ *
+ * The table has the row at `filerow`, the row at `batchrow` with its last six
+ * bytes replaced by the number of lines, and an entry for each line: the fields
+ * filled with blanks on the right (the amount as ten digits of cents), blank
+ * discretionary data, no addendum, and traces from 1 on with the batch's bank.
+ *
+ * The first faulty line is refused: 29 with field 0, then field by field 30 for
+ * field 4 and 32 for the others; lengths count after the quotes are taken off,
+ * and nothing is trimmed. Then comes 24, for a row of the wrong length or more
+ * than 999,999 lines, then the refusals of the file that would be formed, where
+ * line k is record k + 2, and last 23.
+ *
+ * Granted, the table stands in front, `length` is how many bytes it has, and the
+ * bytes behind it stay. It has 204 + 93 * lines bytes; a line that is granted has
+ * at least 22 bytes, and CR LF before the next one, so that 204 + (n + 2) / 24 *
+ * 93 bytes are always enough room. A pointer may be null if its length is 0.
+ */
+uint64_t ach_import(const uint8_t *filerow, size_t filerow_length,
+                    const uint8_t *batchrow, size_t batchrow_length,
+                    const uint8_t *lines, size_t n, uint8_t *table, size_t room,
+                    uint64_t *length);
+
+/*
+ * Puts the entries of a pay table, of all its batches in order, as comma lines
+ * into the `room` bytes at `lines`: each of the six fields in quotes, without the
+ * blanks behind it, a quote in it doubled, the amount with no more zeros in front
+ * than one before the point; CR LF ends each line, the last one too. Addenda,
+ * discretionary data, traces and batches are left out. Refused: what ach_write
+ * refuses the table for, then 23.
+ *
+ * Granted, the lines stand in front, `length` is how many bytes they have, and
+ * the bytes behind them stay. A line has at most 132 bytes (every byte of
+ * identification and name a quote), so that n / 93 * 132 bytes are always enough
+ * room. Imported again, where that is granted, the lines give the six fields of
+ * every entry back. A pointer may be null if its length is 0.
+ */
+uint64_t ach_export(const uint8_t *table, size_t n, uint8_t *lines, size_t room,
+                    uint64_t *length);
 
 #ifdef __cplusplus
 }

@@ -1,6 +1,7 @@
 /*
  * Checks a file without line ends and one with CR LF behind every record,
- * alters one amount in each, and prints what the library answers.
+ * alters one amount in each, makes a table of a client's list and a list of the
+ * table, and prints what the library answers.
  *
  *     cc -Iinclude host/c/example.c target/staticlib/libach_c.a -o example
  *     ./example samples/whole.ach samples/whole-lined.ach
@@ -92,6 +93,38 @@ static void print_all(uint64_t way, size_t n)
         print_check(way, n - 1);
 }
 
+/*
+ * A list of one line becomes a table, and the table a list. What stands for the
+ * number of entries in the batch's row does not matter.
+ */
+static void print_list(const char *list)
+{
+    static const uint8_t filerow[ACH_FILEROW_LENGTH + 1] =
+        " 322070381 1234567892611130930A"
+        "HARBOR COMMUNITY BANK  LANTERN GOODS CO               ";
+    static const uint8_t batchrow[ACH_BATCHROW_LENGTH + 1] =
+        "220LANTERN GOODS CO                    1123456789PPDPAYROLL   NOV 13"
+        "261116322070380000001......";
+    uint8_t table[1000], lines[1000];
+    uint64_t table_length, length;
+    uint64_t answer =
+        ach_import(filerow, ACH_FILEROW_LENGTH, batchrow, ACH_BATCHROW_LENGTH,
+                   (const uint8_t *)list, strlen(list), table, sizeof table,
+                   &table_length);
+    if (answer != 0) {
+        print_refusal("import", answer);
+        return;
+    }
+    printf("import: a table of %" PRIu64 " bytes\n", table_length);
+    answer = ach_export(table, table_length, lines, sizeof lines, &length);
+    if (answer != 0) {
+        print_refusal("export", answer);
+        return;
+    }
+    /* One line, and CR LF behind it. */
+    printf("export: %.*s\n", (int)length - 2, (const char *)lines);
+}
+
 /* The number of bytes that were read into `file`. */
 static size_t load(const char *name)
 {
@@ -121,5 +154,9 @@ int main(int count, char **arguments)
         file[94] = ' ';
         print_check(ACH_LINED, n);
     }
+
+    printf("a list\n");
+    print_list("22,322070381,4410-22871,0100.00,E-1001,\"MARLOWE, ADA\"");
+    print_list("22,322070381,4410-22871,100,E-1001,\"MARLOWE, ADA\"");
     return 0;
 }

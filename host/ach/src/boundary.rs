@@ -2,7 +2,8 @@
 //!
 //! Every function answers 0 if it grants, else number + 256 * field + 65536 * record. A refusal
 //! leaves all lent memory untouched. The way of the file is 0 for records back to back; any other
-//! number means CR LF behind every record.
+//! number means CR LF behind every record. A list and a table have no way. Where a line of a list
+//! is refused (29, 30, 32), its number stands for the record.
 //!
 //! # Safety
 //! A pointer is to as many bytes as the length behind it says, or to as many numbers as the
@@ -51,6 +52,28 @@ extern "C" {
         n: usize,
         entry: u64,
         start: *mut u64,
+        length: *mut u64,
+    ) -> u64;
+
+    /// Writes the pay table of a client's list to `table`, and its length to `length`.
+    pub fn ach_import(
+        filerow: *const u8,
+        filerow_length: usize,
+        batchrow: *const u8,
+        batchrow_length: usize,
+        lines: *const u8,
+        n: usize,
+        table: *mut u8,
+        room: usize,
+        length: *mut u64,
+    ) -> u64;
+
+    /// Writes the entries of a pay table as lines to `lines`, and their length to `length`.
+    pub fn ach_export(
+        table: *const u8,
+        n: usize,
+        lines: *mut u8,
+        room: usize,
         length: *mut u64,
     ) -> u64;
 }

@@ -1,4 +1,4 @@
-//! Qalarimo ACH: checking, reading, writing and altering ACH payment files.
+//! Qalarimo ACH: checking, reading, writing and altering ACH payment files, and client lists.
 //!
 //! The work is done by a proved library, which this crate links as an archive. What is here turns
 //! slices into pointers and numbers into answers, and nothing else. Every function takes any
@@ -6,7 +6,8 @@
 //!
 //! A *file* is records of 94 columns in one of two [ways](Way): back to back, or with CR LF behind
 //! every record. A *pay table* holds the same payments without what can be computed from them:
-//! counts, hashes, totals, fillers and line ends.
+//! counts, hashes, totals, fillers and line ends. A *list* holds payments as comma lines, as
+//! spreadsheets export them; it becomes a table by [`import`], and [`export`] makes one of a table.
 //!
 //! ```
 //! use ach::Way;
@@ -23,9 +24,14 @@
 
 pub mod boundary;
 pub mod fields;
+mod lines;
 mod refusal;
 mod way;
 
+pub use lines::{
+    export, export_into, import, import_into, room_for_lines, room_for_table, LineField, BATCH_ROW,
+    FILE_ROW, LINE_FIELDS,
+};
 pub use refusal::{reason, Refusal};
 pub use way::Way;
 
@@ -36,10 +42,13 @@ pub const ACCEPTANCE_LENGTH: usize = 21;
 pub const CODES: [u8; 8] = [22, 23, 27, 28, 32, 33, 37, 38];
 
 /// A pay table's four counts and its header row.
-const EMPTY_TABLE: usize = 109;
+const EMPTY_TABLE: usize = 4 * 6 + FILE_ROW;
+
+/// How many bytes an entry's row has: columns 2-94 of record 6.
+const ENTRY_ROW: usize = 93;
 
 /// No pay table of right shape is longer: 999,999 rows, in each of three sections, and the header.
-pub const LONGEST_TABLE: usize = EMPTY_TABLE + (95 + 93 + 80) * 999_999;
+pub const LONGEST_TABLE: usize = EMPTY_TABLE + (BATCH_ROW + ENTRY_ROW + 80) * 999_999;
 
 /// What an accepted file holds.
 #[derive(Clone, Copy, Debug, PartialEq, Eq)]

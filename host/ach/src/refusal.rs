@@ -11,11 +11,11 @@ use std::fmt;
 /// ```
 #[derive(Clone, Copy, Debug, PartialEq, Eq)]
 pub struct Refusal {
-    /// The reason, 1 to 26.
+    /// The reason, which [`reason`] has words for.
     pub number: u8,
-    /// The record, counted from 1.
+    /// The record, counted from 1; for a line of a list (29, 30 and 32) the line.
     pub record: u64,
-    /// The field of that record, counted from 1.
+    /// The field of that record or line, counted from 1.
     pub field: u8,
 }
 
@@ -29,49 +29,64 @@ impl Refusal {
     pub const fn without_place(number: u8) -> Self {
         Refusal { number, record: 0, field: 0 }
     }
+
+    /// Whether it is a line of a list that is refused, and no record of a file.
+    ///
+    /// ```
+    /// let refusal = ach::import(b"", b"", b"no line").unwrap_err();
+    /// assert!(refusal.is_of_line());
+    /// assert_eq!(refusal.to_string(), "refusal 29: the line is not six fields with commas between them (line 1)");
+    /// ```
+    pub const fn is_of_line(self) -> bool {
+        matches!(self.number, 29 | 30 | 32)
+    }
 }
 
 impl fmt::Display for Refusal {
     fn fmt(&self, to: &mut fmt::Formatter) -> fmt::Result {
         write!(to, "refusal {}: {}", self.number, reason(self.number).unwrap_or("unknown"))?;
+        let place = if self.is_of_line() { "line" } else { "record" };
         match (self.record, self.field) {
             (0, _) => Ok(()),
-            (record, 0) => write!(to, " (record {record})"),
-            (record, field) => write!(to, " (record {record}, field {field})"),
+            (record, 0) => write!(to, " ({place} {record})"),
+            (record, field) => write!(to, " ({place} {record}, field {field})"),
         }
     }
 }
 
 impl std::error::Error for Refusal {}
 
-/// What each number means, from 1 on.
-const REASONS: [&str; 26] = [
-    "the length of the file is wrong",
-    "the data end where a record is still due",
-    "a record of this type may not stand here",
-    "a record stands behind the filled block",
-    "fixed text is not as it has to be",
-    "something other than digits stands here",
-    "a character stands here that is not allowed",
-    "the field must not be all blank",
-    "a blank stands before other characters",
-    "there is no such day or time",
-    "the value is not one of those known",
-    "the check digit is wrong",
-    "the bank's number begins with a digit above 3",
-    "the amount does not suit the transaction code",
-    "the code is not allowed under the batch's service class",
-    "the trace number is wrong",
-    "the batch number does not rise",
-    "the count is wrong",
-    "the entry hash is wrong",
-    "the sum of the amounts is above 9,999,999,999.99",
-    "the total is not the sum of the amounts",
-    "the batch control differs from the batch header",
-    "the room for the result is too short",
-    "the table is not of the right shape",
-    "there is no entry of this number",
-    "the record is not followed by CR LF",
+/// What each number means.
+const REASONS: [(u8, &str); 29] = [
+    (1, "the length of the file is wrong"),
+    (2, "the data end where a record is still due"),
+    (3, "a record of this type may not stand here"),
+    (4, "a record stands behind the filled block"),
+    (5, "fixed text is not as it has to be"),
+    (6, "something other than digits stands here"),
+    (7, "a character stands here that is not allowed"),
+    (8, "the field must not be all blank"),
+    (9, "a blank stands before other characters"),
+    (10, "there is no such day or time"),
+    (11, "the value is not one of those known"),
+    (12, "the check digit is wrong"),
+    (13, "the bank's number begins with a digit above 3"),
+    (14, "the amount does not suit the transaction code"),
+    (15, "the code is not allowed under the batch's service class"),
+    (16, "the trace number is wrong"),
+    (17, "the batch number does not rise"),
+    (18, "the count is wrong"),
+    (19, "the entry hash is wrong"),
+    (20, "the sum of the amounts is above 9,999,999,999.99"),
+    (21, "the total is not the sum of the amounts"),
+    (22, "the batch control differs from the batch header"),
+    (23, "the room for the result is too short"),
+    (24, "the table is not of the right shape"),
+    (25, "there is no entry of this number"),
+    (26, "the record is not followed by CR LF"),
+    (29, "the line is not six fields with commas between them"),
+    (30, "the amount of the line is not digits, a point and two digits, or is too large"),
+    (32, "the field of the line is too long for its columns"),
 ];
 
 /// What a refusal's number means; nothing for a number that is none.
@@ -81,6 +96,5 @@ const REASONS: [&str; 26] = [
 /// assert_eq!(ach::reason(27), None);
 /// ```
 pub fn reason(number: u8) -> Option<&'static str> {
-    let index = usize::from(number).checked_sub(1)?;
-    REASONS.get(index).copied()
+    REASONS.iter().find(|(known, _)| *known == number).map(|(_, words)| *words)
 }

@@ -27,7 +27,7 @@ fn every_sample_has_its_line() {
 fn every_table_is_its_files() {
     let files = files();
     let tables: Vec<&String> = files.keys().filter(|name| name.ends_with(".table")).collect();
-    assert_eq!(tables.len(), 9);
+    assert_eq!(tables.len(), 10);
     for name in tables {
         let (table, plain) = (&files[name], &files[&name.replace(".table", ".ach")]);
         let lined = generate::lines::lined(plain);
@@ -35,6 +35,19 @@ fn every_table_is_its_files() {
             assert_eq!(ach::file_of(way, table).as_ref(), Ok(file), "{name}");
             assert_eq!(ach::table_of(way, file).as_ref(), Ok(table), "{name}");
         }
+    }
+}
+
+/// The line of a list is that of the file which its table is written to, or that of its refusal.
+#[test]
+fn every_list_has_its_line() {
+    let files = files();
+    let (file_row, batch_row) = (&files["team.file-row"], &files["team.batch-row"]);
+    for (name, expected) in samples::list_index() {
+        let held = ach::import(file_row, batch_row, &files[name])
+            .and_then(|table| ach::file_of(Way::Plain, &table))
+            .and_then(|file| ach::check(Way::Plain, &file));
+        assert_eq!(ach::line(&held), expected, "{name}");
     }
 }
 

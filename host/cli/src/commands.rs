@@ -2,8 +2,9 @@
 
 use crate::explain;
 use crate::input::{self, Content, Stamp};
+use crate::list_words::{self, Import, LONGEST_ROW};
 use crate::money::{signed, spelled};
-use crate::options::{Amount, Command, Entry, Source, Target, HELP};
+use crate::options::{Amount, Command, Entry, Rows, Source, Target, HELP};
 use crate::output;
 use crate::progress::Progress;
 use crate::show;
@@ -24,6 +25,8 @@ pub fn run(command: Command) -> Result<(), Trouble> {
             alter(way, &file, &entry, &amount, &target, line)
         }
         Command::Addendum { way, file, entry } => addendum(way, &file, &entry),
+        Command::Import { list, rows, target, line } => import(&list, &rows, &target, line),
+        Command::Export { table, target, line } => export(&table, &target, line),
         Command::Explain { number } => say(&explain::of_number(number)),
     }
 }
@@ -44,6 +47,24 @@ fn load_file(way: Way, source: &Source, line: bool) -> Result<Loaded, Trouble> {
 fn load_table(source: &Source, line: bool) -> Result<Loaded, Trouble> {
     load(source, ach::LONGEST_TABLE)?
         .map_err(|name| refused(Refusal::without_place(24), line, || words::of_long_table(&name)))
+}
+
+/// No list that becomes a table is as long, unless its amounts have zeros in front by the hundred.
+const LONGEST_LIST: usize = 1_000_000_000;
+
+fn load_list(source: &Source) -> Result<Loaded, Trouble> {
+    match load(source, LONGEST_LIST)? {
+        Ok(loaded) => Ok(loaded),
+        Err(name) => {
+            failed(format!("{name}: more than {LONGEST_LIST} bytes are not read as a list"))
+        }
+    }
+}
+
+/// The bytes of a row. Of a file that is much too long, as many as the library refuses as well.
+fn load_row(source: &Source) -> Result<Vec<u8>, Trouble> {
+    let loaded = load(source, LONGEST_ROW)?;
+    Ok(loaded.map_or_else(|_| vec![b' '; LONGEST_ROW + 1], |loaded| loaded.bytes))
 }
 
 /// The bytes, or the name of what is too long.
@@ -138,7 +159,7 @@ fn read(way: Way, file: &Source, target: &Target, line: bool) -> Result<(), Trou
     let table = watched("reading", name, || ach::table_of(way, bytes))
         .map_err(|refusal| refused(refusal, line, || words::of_file(way, name, bytes, refusal)))?;
     put(target, &table, None)?;
-    report(target, way, bytes, table.len(), line)
+    report(target, ach::check(way, bytes), table.len(), line)
 }
 
 fn write(way: Way, table: &Source, target: &Target, line: bool) -> Result<(), Trouble> {
@@ -148,7 +169,7 @@ fn write(way: Way, table: &Source, target: &Target, line: bool) -> Result<(), Tr
     let file = watched("writing from", name, || ach::file_of(way, bytes))
         .map_err(|refusal| refused(refusal, line, || words::of_table(name, bytes, refusal)))?;
     put(target, &file, None)?;
-    report(target, way, &file, file.len(), line)
+    report(target, ach::check(way, &file), file.len(), line)
 }
 
 fn put(target: &Target, bytes: &[u8], read: Option<Stamp>) -> Result<(), Trouble> {
@@ -158,12 +179,11 @@ fn put(target: &Target, bytes: &[u8], read: Option<Stamp>) -> Result<(), Trouble
 /// Says how much was written, and what the file holds that it stands for.
 fn report(
     target: &Target,
-    way: Way,
-    file: &[u8],
+    held: Result<Acceptance, Refusal>,
     length: usize,
     line: bool,
 ) -> Result<(), Trouble> {
-    let Ok(held) = ach::check(way, file) else {
+    let Ok(held) = held else {
         return failed("the library refuses what it has just granted");
     };
     if line {
@@ -190,7 +210,7 @@ fn alter(
     })?;
     put(target, bytes, loaded.stamp)?;
     if line {
-        return report(target, way, bytes, bytes.len(), line);
+        return report(target, ach::check(way, bytes), bytes.len(), line);
     }
     let old = amount.number as i64 - difference;
     let words = format!(
@@ -214,4 +234,31 @@ fn addendum(way: Way, file: &Source, entry: &Entry) -> Result<(), Trouble> {
         return Ok(());
     }
     say(&format!("{}\n", show::trimmed(text)))
+}
+
+fn import(list: &Source, rows: &Rows, target: &Target, line: bool) -> Result<(), Trouble> {
+    output::look_at(target)?;
+    let (file_row, batch_row) = (load_row(&rows.file)?, load_row(&rows.batch)?);
+    let Loaded { name, bytes, .. } = load_list(list)?;
+    let given = Import { file_row: &file_row, batch_row: &batch_row, list: &bytes };
+    let table = watched("importing", &name, || ach::import(&file_row, &batch_row, &bytes))
+        .map_err(|refusal| {
+            refused(refusal, line, || list_words::of_import(&name, &given, refusal))
+        })?;
+    put(target, &table, None)?;
+    report(target, held_by(&table), table.len(), line)
+}
+
+fn export(table: &Source, target: &Target, line: bool) -> Result<(), Trouble> {
+    output::look_at(target)?;
+    let Loaded { name, bytes, .. } = load_table(table, line)?;
+    let lines = watched("exporting", &name, || ach::export(&bytes))
+        .map_err(|refusal| refused(refusal, line, || words::of_table(&name, &bytes, refusal)))?;
+    put(target, &lines, None)?;
+    report(target, held_by(&bytes), lines.len(), line)
+}
+
+/// What the file of a table holds, which is the same in both ways.
+fn held_by(table: &[u8]) -> Result<Acceptance, Refusal> {
+    ach::check(Way::Plain, &ach::file_of(Way::Plain, table)?)
 }

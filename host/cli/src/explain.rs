@@ -1,16 +1,36 @@
 //! What the refusals' numbers mean, and where each can be given.
 
+use crate::list_words::due_in;
 use crate::words::columns;
 use ach::fields::{Kind, RecordType, RECORD_TYPES};
+use ach::LineField;
 
 /// What a refusal's number means, and which fields can be refused with it.
 pub fn of_number(number: u8) -> String {
     let reason = ach::reason(number).unwrap_or_default();
-    let mut lines = format!("{number}: {reason}\n{}\n", ADVICE[usize::from(number) - 1]);
+    let advice = ADVICE.iter().find(|(known, _)| *known == number).map_or("", |(_, text)| text);
+    let mut lines = format!("{number}: {reason}\n{advice}\n");
     for known in &RECORD_TYPES {
         lines += &fields_with(known, number);
     }
-    lines
+    lines + &line_fields_with(number)
+}
+
+/// The fields of a line that can be refused with the number, and what is due in each.
+fn line_fields_with(number: u8) -> String {
+    let fields = ach::LINE_FIELDS.iter().zip(1..);
+    let refused = fields.filter(|(field, _)| number_of_line_field(field) == number);
+    refused
+        .map(|(field, index)| format!("  line, field {index} {}: {}\n", field.name, due_in(field)))
+        .collect()
+}
+
+fn number_of_line_field(field: &LineField) -> u8 {
+    if field.name == "amount" {
+        30
+    } else {
+        32
+    }
 }
 
 fn fields_with(known: &RecordType, number: u8) -> String {
@@ -54,41 +74,47 @@ fn numbers_of(kind: Kind) -> &'static [u8] {
     }
 }
 
-/// What each number asks for, from 1 on.
-const ADVICE: [&str; 26] = [
-    "A file is records of 94 bytes, back to back, without line ends: 94 to 94,000,000 bytes. With\n\
-     --lined it is records of 96 bytes, CR LF behind each, the last one too: 96 to 96,000,000 bytes.",
-    "The file ends early. Part of it is missing, or the fillers behind the file control are.",
-    "The order is 1, then batches of a 5, entries and an 8, then a 9 and fillers. An entry is a 6,\n\
-     with a 7 behind it exactly if its column 79 is 1. There is at least one batch, and none empty.",
-    "Behind the file control only as many fillers stand as make the records a multiple of ten.",
-    "Some columns hold the same in every file; a filler is 94 nines.",
-    "Only 0 to 9 may stand here, with zeros in front.",
-    "Text has capital letters, digits and signs; account numbers have capital letters, digits and\n\
-     hyphens.",
-    "This field says something in every file.",
-    "Text begins in the first column of its field; an account number has no blank inside.",
-    "Days are written YYMMDD, times HHMM from 0000 to 2359.",
-    "Only certain values are known here, such as 220 for a batch of credits, or code 22.",
-    "The ninth digit of a bank's number is made from the eight before it. Compare the number with\n\
-     a voided check or ask the bank.",
-    "The numbers of banks that receive payments begin with 0, 1, 2 or 3.",
-    "Codes 23, 28, 33 and 38 are prenotes and carry 0; the others carry 0.01 to 99999999.99.",
-    "Under class 220 stand credits (22, 23, 32, 33), under 225 debits (27, 28, 37, 38), under 200\n\
-     both.",
-    "A trace number is the batch's bank and a number that is greater than in the entry before;\n\
-     numbers may be left out, and each batch begins anew with 1 or more. An addendum repeats it.",
-    "Batch numbers start at 1 or above, and each is greater than the one before.",
-    "The control does not count what is there: an entry may be missing, or be there twice.",
-    "The hash is the sum of the entries' bank numbers without check digits, cut to ten digits.",
-    "A batch's or a file's debits or credits may come to 9,999,999,999.99. Split the payments.",
-    "The control's total is not what the entries come to: an amount or an entry was changed.",
-    "The batch control repeats class, company, bank and number of the batch header.",
-    "The result did not fit where it should go. Programs see this number; this command does not.",
-    "A pay table has a header row, batches, entries and addenda, each after a count of six digits.",
-    "Entries are counted from 1 through the file, as `ach show` does.",
-    "With --lined, CR LF (the bytes 0D 0A) stands behind column 94 of every record, fillers too.\n\
-     Without --lined there are no line ends, and this number is not given.",
+/// What each number asks for.
+const ADVICE: [(u8, &str); 29] = [
+    (1, "A file is records of 94 bytes, back to back, without line ends: 94 to 94,000,000 bytes. With\n\
+     --lined it is records of 96 bytes, CR LF behind each, the last one too: 96 to 96,000,000 bytes."),
+    (2, "The file ends early. Part of it is missing, or the fillers behind the file control are."),
+    (3, "The order is 1, then batches of a 5, entries and an 8, then a 9 and fillers. An entry is a 6,\n\
+     with a 7 behind it exactly if its column 79 is 1. There is at least one batch, and none empty."),
+    (4, "Behind the file control only as many fillers stand as make the records a multiple of ten."),
+    (5, "Some columns hold the same in every file; a filler is 94 nines."),
+    (6, "Only 0 to 9 may stand here, with zeros in front."),
+    (7, "Text has capital letters, digits and signs; account numbers have capital letters, digits and\n\
+     hyphens."),
+    (8, "This field says something in every file."),
+    (9, "Text begins in the first column of its field; an account number has no blank inside."),
+    (10, "Days are written YYMMDD, times HHMM from 0000 to 2359."),
+    (11, "Only certain values are known here, such as 220 for a batch of credits, or code 22."),
+    (12, "The ninth digit of a bank's number is made from the eight before it. Compare the number with\n\
+     a voided check or ask the bank."),
+    (13, "The numbers of banks that receive payments begin with 0, 1, 2 or 3."),
+    (14, "Codes 23, 28, 33 and 38 are prenotes and carry 0; the others carry 0.01 to 99999999.99."),
+    (15, "Under class 220 stand credits (22, 23, 32, 33), under 225 debits (27, 28, 37, 38), under 200\n\
+     both."),
+    (16, "A trace number is the batch's bank and a number that is greater than in the entry before;\n\
+     numbers may be left out, and each batch begins anew with 1 or more. An addendum repeats it."),
+    (17, "Batch numbers start at 1 or above, and each is greater than the one before."),
+    (18, "The control does not count what is there: an entry may be missing, or be there twice."),
+    (19, "The hash is the sum of the entries' bank numbers without check digits, cut to ten digits."),
+    (20, "A batch's or a file's debits or credits may come to 9,999,999,999.99. Split the payments."),
+    (21, "The control's total is not what the entries come to: an amount or an entry was changed."),
+    (22, "The batch control repeats class, company, bank and number of the batch header."),
+    (23, "The result did not fit where it should go. Programs see this number; this command does not."),
+    (24, "A pay table has a header row, batches, entries and addenda, each after a count of six digits."),
+    (25, "Entries are counted from 1 through the file, as `ach show` does."),
+    (26, "With --lined, CR LF (the bytes 0D 0A) stands behind column 94 of every record, fillers too.\n\
+     Without --lined there are no line ends, and this number is not given."),
+    (29, "A line has six fields with commas between them: code, routing number, account, amount,\n\
+     identification, name. A field with a comma, a quote or a break in it stands in quotes, and a\n\
+     quote in it is doubled. CR LF ends a line. There is no header line and no empty line."),
+    (30, "The amount of a line is written 1234.56, without signs, blanks or commas."),
+    (32, "An entry has so many columns for a field. Blanks count; the quotes around a field do not, and\n\
+     a doubled quote in it counts once."),
 ];
 
 #[cfg(test)]
@@ -97,6 +123,12 @@ mod tests {
     use crate::words::place_of;
     use ach::Way;
     use std::collections::BTreeSet;
+
+    #[test]
+    fn every_number_has_its_advice() {
+        let known = (0..=255).filter(|number| ach::reason(*number).is_some());
+        assert!(known.eq(ADVICE.iter().map(|(number, _)| *number)));
+    }
 
     #[test]
     fn every_number_seen_is_listed_for_its_field() {

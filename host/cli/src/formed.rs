@@ -2,9 +2,9 @@
 //! what stands in them. Nothing that is decided or written comes from here. The records stand back
 //! to back whatever way is asked for, since a refusal's record and field are the same in both.
 
-const COUNT: usize = 6;
-const HEADER_ROW: usize = 85;
-const BATCH_ROW: usize = 95;
+use ach::{BATCH_ROW, FILE_ROW};
+
+pub const COUNT: usize = 6;
 const ENTRY_ROW: usize = 93;
 const ADDENDUM_ROW: usize = 80;
 /// Column 79 in an entry's row, which begins with column 2.
@@ -35,7 +35,7 @@ impl<'t> Sections<'t> {
             Some(part)
         };
         Some(Sections {
-            header: section(HEADER_ROW).filter(|rows| !rows.is_empty())?,
+            header: section(FILE_ROW).filter(|rows| !rows.is_empty())?,
             batches: section(BATCH_ROW)?,
             entries: section(ENTRY_ROW)?,
             addenda: section(ADDENDUM_ROW)?,

@@ -1,4 +1,4 @@
-//! `ach`: checks, reads, writes, alters and shows ACH payment files.
+//! `ach`: checks, reads, writes, alters and shows ACH payment files, and takes client lists.
 //!
 //! All that is decided about a file is decided by the proved library. What is here moves bytes
 //! between files and the library's functions, and puts its answers into words.
@@ -10,6 +10,8 @@ mod due;
 mod explain;
 mod formed;
 mod input;
+mod list;
+mod list_words;
 mod money;
 mod options;
 mod output;

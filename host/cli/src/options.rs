@@ -7,7 +7,8 @@ use std::ffi::OsString;
 use std::path::{Path, PathBuf};
 
 pub const HELP: &str = "\
-ach: checks, reads, writes and alters ACH payment files (PPD and CCD)
+ach: checks, reads, writes and alters ACH payment files (PPD and CCD), and makes
+pay tables of client lists
 
   ach check FILE                          is the file in order?
   ach show FILE                           batches, entries, totals
@@ -16,11 +17,21 @@ ach: checks, reads, writes and alters ACH payment files (PPD and CCD)
   ach alter FILE ENTRY AMOUNT -o FILE     one entry's amount, with the totals
   ach alter FILE ENTRY AMOUNT --in-place
   ach addendum FILE ENTRY                 the text of an entry's addendum
+  ach import LINES --file-row ROW --batch-row ROW -o TABLE
+                                          the pay table of a client's list
+  ach export TABLE -o LINES               a pay table's entries as a list
   ach explain NUMBER                      what a refusal's number means
 
-FILE may be - for standard input, and -o - is standard output. ENTRY counts the
-entries from 1 through the file, as `ach show` does. AMOUNT is 1234.56, or 1234
-for whole dollars: digits, with no point or a point and two digits.
+FILE, TABLE or LINES may be - for standard input, and -o - is standard output.
+ENTRY counts the entries from 1 through the file, as `ach show` does. AMOUNT is
+1234.56, or 1234 for whole dollars: digits, with no point or a point and two
+digits.
+
+LINES are comma lines as spreadsheets export them (RFC 4180), without a header
+line: code, routing number, account, amount (1234.56), identification, name. ROW
+is a file that holds one row of a pay table and nothing else: 85 bytes for the
+file's header, 95 for the batch, whose last six, the number of entries, are
+filled in. A line break at the end of a row's file is NOT stripped: it counts.
 
   --lined      the file has, or gets, CR LF behind every record (96 bytes each);
                without it records stand back to back (94 bytes); nothing guesses
@@ -28,7 +39,8 @@ for whole dollars: digits, with no point or a point and two digits.
   --force      replace a file that is there, keeping its permissions
   --in-place   replace the altered file itself, keeping its permissions
   --line       one line: OK batches entries addenda debit credit (in cents), or
-               NO number record field (check, read, write, alter)
+               NO number record field (check, read, write, alter, import,
+               export; for an import's 29, 30 and 32 the line is the record)
   --           what follows is no option
   --help, --version
 
@@ -84,7 +96,16 @@ pub enum Command {
     Write { way: Way, table: Source, target: Target, line: bool },
     Alter { way: Way, file: Source, entry: Entry, amount: Amount, target: Target, line: bool },
     Addendum { way: Way, file: Source, entry: Entry },
+    Import { list: Source, rows: Rows, target: Target, line: bool },
+    Export { table: Source, target: Target, line: bool },
     Explain { number: u8 },
+}
+
+/// The files that hold the rows of an import.
+#[derive(Debug, PartialEq)]
+pub struct Rows {
+    pub file: Source,
+    pub batch: Source,
 }
 
 /// A number and how it was written.
@@ -102,10 +123,12 @@ pub type Amount = Written;
 #[derive(Default)]
 struct Given {
     words: Vec<OsString>,
-    output: Option<OsString>,
+    paths: Vec<(&'static str, OsString)>,
     flags: Vec<&'static str>,
 }
 
+/// The options that a path follows.
+const WITH_PATH: [&str; 3] = ["-o", "--file-row", "--batch-row"];
 const FLAGS: [&str; 4] = ["--force", "--in-place", "--line", "--lined"];
 
 pub fn parse(arguments: impl Iterator<Item = OsString>) -> Result<Command, Trouble> {
@@ -122,25 +145,38 @@ pub fn parse(arguments: impl Iterator<Item = OsString>) -> Result<Command, Troub
             "--" => options_end = true,
             "--help" | "-h" => return Ok(Command::Help),
             "--version" | "-V" => return Ok(Command::Version),
-            "-o" => given.set_output(rest.next())?,
-            _ => given.set_flag(spelled)?,
+            _ => match WITH_PATH.into_iter().find(|option| *option == spelled) {
+                Some(option) => given.set_path(option, rest.next())?,
+                None => given.set_flag(spelled)?,
+            },
         }
     }
     given.command()
 }
 
 impl Given {
-    fn set_output(&mut self, path: Option<OsString>) -> Result<(), Trouble> {
+    fn set_path(&mut self, option: &'static str, path: Option<OsString>) -> Result<(), Trouble> {
         let Some(path) = path else {
-            return misused("-o wants the name of a file");
+            return misused(format!("{option} wants the name of a file"));
         };
         if path.is_empty() {
-            return misused("-o wants the name of a file, and got an empty one");
+            return misused(format!("{option} wants the name of a file, and got an empty one"));
         }
-        match self.output.replace(path) {
-            None => Ok(()),
-            Some(_) => misused("-o is given twice"),
+        if self.has_path(option) {
+            return misused(format!("{option} is given twice"));
         }
+        self.paths.push((option, path));
+        Ok(())
+    }
+
+    fn has_path(&self, option: &str) -> bool {
+        self.paths.iter().any(|(given, _)| *given == option)
+    }
+
+    /// Takes the path of an option out, so that those left over can be refused.
+    fn path(&mut self, option: &str) -> Option<OsString> {
+        let index = self.paths.iter().position(|(given, _)| *given == option)?;
+        Some(self.paths.remove(index).1)
     }
 
     fn set_flag(&mut self, spelled: &str) -> Result<(), Trouble> {
@@ -164,7 +200,13 @@ impl Given {
         }
         let name = self.words.remove(0);
         let name = shown(Path::new(&name));
-        let command = match name.as_str() {
+        let command = self.named(&name)?;
+        self.nothing_left(&name)?;
+        Ok(command)
+    }
+
+    fn named(&mut self, name: &str) -> Result<Command, Trouble> {
+        Ok(match name {
             "check" => {
                 let [file] = self.take("FILE")?;
                 Command::Check { way: self.way(), file: source(&file), line: self.flag("--line") }
@@ -174,14 +216,12 @@ impl Given {
                 Command::Show { way: self.way(), file: source(&file) }
             }
             "read" => {
-                let [file] = self.take("FILE")?;
-                let (target, line) = (self.target()?, self.flag("--line"));
-                Command::Read { way: self.way(), file: source(&file), target, line }
+                let (file, target, line) = self.result_of("FILE")?;
+                Command::Read { way: self.way(), file, target, line }
             }
             "write" => {
-                let [table] = self.take("TABLE")?;
-                let (target, line) = (self.target()?, self.flag("--line"));
-                Command::Write { way: self.way(), table: source(&table), target, line }
+                let (table, target, line) = self.result_of("TABLE")?;
+                Command::Write { way: self.way(), table, target, line }
             }
             "alter" => self.alter()?,
             "addendum" => {
@@ -189,27 +229,41 @@ impl Given {
                 let entry = entry_number(&entry)?;
                 Command::Addendum { way: self.way(), file: source(&file), entry }
             }
+            "import" => {
+                let rows = Rows { file: self.row("--file-row")?, batch: self.row("--batch-row")? };
+                let (list, target, line) = self.result_of("LINES")?;
+                Command::Import { list, rows, target, line }
+            }
+            "export" => {
+                let (table, target, line) = self.result_of("TABLE")?;
+                Command::Export { table, target, line }
+            }
             "explain" => {
                 let [number] = self.take("NUMBER")?;
                 Command::Explain { number: refusal_number(&number)? }
             }
             _ => return misused(format!("there is no command {name}")),
-        };
-        self.nothing_left(&name)?;
-        Ok(command)
+        })
+    }
+
+    /// For a command that makes one thing of another: what it reads, where the result goes, and
+    /// whether one line is wanted.
+    fn result_of(&mut self, name: &str) -> Result<(Source, Target, bool), Trouble> {
+        let [word] = self.take(name)?;
+        Ok((source(&word), self.target()?, self.flag("--line")))
     }
 
     fn alter(&mut self) -> Result<Command, Trouble> {
         let [file, entry, amount] = self.take("FILE ENTRY AMOUNT")?;
         let (entry, amount) = (entry_number(&entry)?, amount_in_cents(&amount)?);
         let file = source(&file);
-        let target = match (self.flag("--in-place"), &self.output, &file) {
+        let target = match (self.flag("--in-place"), self.has_path("-o"), &file) {
             (false, ..) => self.target()?,
-            (true, Some(_), _) => return misused("--in-place and -o exclude each other"),
-            (true, None, Source::StandardInput) => {
+            (true, true, _) => return misused("--in-place and -o exclude each other"),
+            (true, false, Source::StandardInput) => {
                 return misused("standard input cannot be altered in place")
             }
-            (true, None, Source::File(path)) => Target::InPlace(path.clone()),
+            (true, false, Source::File(path)) => Target::InPlace(path.clone()),
         };
         let (way, line) = (self.way(), self.flag("--line"));
         Ok(Command::Alter { way, file, entry, amount, target, line })
@@ -232,8 +286,17 @@ impl Given {
         })
     }
 
+    /// The file of a row. Standard input, if it is read, holds the list.
+    fn row(&mut self, option: &str) -> Result<Source, Trouble> {
+        match self.path(option) {
+            None => misused(format!("import wants {option} and the name of a file with the row")),
+            Some(path) if path == "-" => misused(format!("{option} wants a file and not a stream")),
+            Some(path) => Ok(Source::File(path.into())),
+        }
+    }
+
     fn target(&mut self) -> Result<Target, Trouble> {
-        let Some(path) = self.output.take() else {
+        let Some(path) = self.path("-o") else {
             return misused("where to? This command wants -o and the name of a file");
         };
         if path == "-" && self.flags.contains(&"--line") {
@@ -248,8 +311,8 @@ impl Given {
     }
 
     fn nothing_left(&self, command: &str) -> Result<(), Trouble> {
-        let output = self.output.as_ref().map(|_| "-o");
-        match self.flags.first().copied().or(output) {
+        let path = self.paths.first().map(|(option, _)| *option);
+        match self.flags.first().copied().or(path) {
             Some(option) => misused(format!("{command} does not take {option} here")),
             None => Ok(()),
         }
@@ -355,9 +418,32 @@ mod tests {
                 | Command::Write { way, .. }
                 | Command::Alter { way, .. }
                 | Command::Addendum { way, .. } => Some(*way),
-                Command::Help | Command::Version | Command::Explain { .. } => None,
+                Command::Import { .. }
+                | Command::Export { .. }
+                | Command::Help
+                | Command::Version
+                | Command::Explain { .. } => None,
             }
         }
+    }
+
+    #[test]
+    fn a_list_with_its_rows() {
+        let file = |name: &str| Source::File(name.into());
+        let import = |list, target, line| {
+            let rows = Rows { file: file("f"), batch: file("r") };
+            Ok(Command::Import { list, rows, target, line })
+        };
+        let words = "import a --file-row f --batch-row r -o b --line";
+        assert_eq!(parsed(words), import(file("a"), Target::New("b".into()), true));
+        let words = "--batch-row r import -o b --force --file-row f -";
+        let target = Target::Replaced("b".into());
+        assert_eq!(parsed(words), import(Source::StandardInput, target, false));
+        let target = Target::StandardOutput;
+        assert_eq!(
+            parsed("export a -o -"),
+            Ok(Command::Export { table: file("a"), target, line: false })
+        );
     }
 
     #[test]
@@ -387,9 +473,25 @@ mod tests {
             "alter a -1 1.00 -o b",
             "addendum a",
             "addendum a one",
+            "import a -o b",
+            "import a --file-row f -o b",
+            "import a --batch-row r -o b",
+            "import a --file-row f --batch-row r",
+            "import a --file-row - --batch-row r -o b",
+            "import a --file-row f --file-row f --batch-row r -o b",
+            "import a --file-row f --batch-row r -o b --lined",
+            "import a --file-row f --batch-row",
+            "import --file-row f --batch-row r -o b",
+            "import a --file-row f --batch-row r -o - --line",
+            "export a",
+            "export a -o b --lined",
+            "export a -o b --file-row f",
+            "read a -o b --batch-row r",
             "explain 12 --lined",
             "explain 0",
             "explain 27",
+            "explain 31",
+            "explain 33",
             "explain 257",
             "explain x",
         ] {

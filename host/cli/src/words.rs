@@ -11,15 +11,15 @@ use ach::{Refusal, Way};
 /// Where a refused thing stands, what it is, what it should be, and what may help; empty lines are
 /// left out.
 #[derive(Default)]
-struct Explanation {
-    place: String,
-    stands: String,
-    due: String,
-    hint: &'static str,
+pub struct Explanation {
+    pub place: String,
+    pub stands: String,
+    pub due: String,
+    pub hint: &'static str,
 }
 
 impl Explanation {
-    fn lines(&self, name: &str, refusal: Refusal) -> String {
+    pub fn lines(&self, name: &str, refusal: Refusal) -> String {
         let number = refusal.number;
         let reason = ach::reason(number).unwrap_or("an unknown reason");
         let mut lines = format!("{name}: refused, {number}: {reason}\n");
@@ -88,22 +88,25 @@ pub fn of_table(name: &str, table: &[u8], refusal: Refusal) -> String {
             due: "fewer payments in one file".into(),
             ..Explanation::default()
         },
-        _ => {
-            let records = formed::records(table, refusal.record as usize);
-            let mut explanation = in_records(Way::Plain, &records, refusal);
-            explanation.place = format!("{} of the file to be written", explanation.place);
-            let last = records.rchunks_exact(COLUMNS).next();
-            if last.is_some_and(|record| matches!(record[0], b'8' | b'9')) {
-                // The control's own text is not known here, only its type.
-                explanation.stands = String::new();
-                if refusal.number == 20 {
-                    explanation.due = format!("a sum of at most {}", spelled(999_999_999_999));
-                }
-            }
-            explanation
-        }
+        _ => in_formed(table, refusal),
     };
     explanation.lines(name, refusal)
+}
+
+/// A record of the file that a table of right shape would become.
+pub fn in_formed(table: &[u8], refusal: Refusal) -> Explanation {
+    let records = formed::records(table, refusal.record as usize);
+    let mut explanation = in_records(Way::Plain, &records, refusal);
+    explanation.place = format!("{} of the file to be written", explanation.place);
+    let last = records.rchunks_exact(COLUMNS).next();
+    if last.is_some_and(|record| matches!(record[0], b'8' | b'9')) {
+        // The control's own text is not known here, only its type.
+        explanation.stands = String::new();
+        if refusal.number == 20 {
+            explanation.due = format!("a sum of at most {}", spelled(999_999_999_999));
+        }
+    }
+    explanation
 }
 
 /// A refusal to alter: the file's own, or if it is in order that of the entry or the amount.

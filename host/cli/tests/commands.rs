@@ -300,7 +300,7 @@ fn every_entry_is_shown_with_its_amount() {
 
 #[test]
 fn explain() {
-    for number in 1..=26 {
+    for number in (1..=26).chain([29, 30, 32]) {
         let run = ach!("explain", number.to_string());
         assert_eq!((run.status, run.err.as_str()), (0, ""));
         assert!(run.out.starts_with(&format!("{number}: ")), "{run:?}");
@@ -321,6 +321,27 @@ Without --lined there are no line ends, and this number is not given.
 ",
         "",
     );
+    ach!("explain", "30").is(
+        0,
+        "30: the amount of the line is not digits, a point and two digits, or is too large
+The amount of a line is written 1234.56, without signs, blanks or commas.
+  line, field 4 amount: digits, a point and two digits, at most 99999999.99
+",
+        "",
+    );
+    ach!("explain", "32").is(
+        0,
+        "32: the field of the line is too long for its columns
+An entry has so many columns for a field. Blanks count; the quotes around a field do not, and
+a doubled quote in it counts once.
+  line, field 1 code: at most 2 characters
+  line, field 2 routing number: at most 9 characters
+  line, field 3 account: at most 17 characters
+  line, field 5 identification: at most 15 characters
+  line, field 6 name: at most 22 characters
+",
+        "",
+    );
     ach!("explain", "27").fails_with("no refusal has the number 27");
 }
 
@@ -329,9 +350,12 @@ fn help_and_version() {
     let help = ach!("--help");
     assert_eq!((help.status, help.err.as_str()), (0, ""));
     for name in
-        ["check", "read", "write", "alter", "addendum", "show", "explain", "--line", "--lined"]
+        ["check", "read", "write", "alter", "addendum", "show", "explain", "import", "export"]
     {
-        assert!(help.out.contains(name), "{name}");
+        assert!(help.out.contains(&format!("\n  ach {name} ")), "{name}");
+    }
+    for option in ["--line", "--lined", "--file-row", "--batch-row", "NOT stripped"] {
+        assert!(help.out.contains(option), "{option}");
     }
     ach!("--version").is(0, concat!("ach ", env!("CARGO_PKG_VERSION"), "\n"), "");
     ach!("check", "x", "--help").is(0, &help.out, "");

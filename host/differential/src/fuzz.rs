@@ -1,12 +1,15 @@
-//! Random and damaged bytes to all five functions of the boundary for as long as asked: each
+//! Random and damaged bytes to all seven functions of the boundary for as long as asked: each
 //! against the independent implementation, in memory between guards, and against one another.
 
 use crate::tally::{Outcome, Tally, PATTERN};
 use crate::{ways, Run};
-use ach::boundary::{ach_addendum, ach_alter, ach_check, ach_read, ach_write};
-use ach::{Refusal, ACCEPTANCE_LENGTH};
+use ach::boundary::{
+    ach_addendum, ach_alter, ach_check, ach_export, ach_import, ach_read, ach_write,
+};
+use ach::{Refusal, ACCEPTANCE_LENGTH, BATCH_ROW, FILE_ROW};
 use generate::damage::{random_damage, resealed, BORDER_BYTES};
 use generate::lines::{lined, random_end_damage};
+use generate::lists::{list_of, random_list_damage, List};
 use generate::tables::{random_row_damage, shape_damage};
 use generate::{near_limit, plan, Plan, Random, RECORD};
 use independent::Way;
@@ -33,17 +36,54 @@ enum Question {
     Write { room: usize },
     Alter { entry: u64, amount: u64 },
     Addendum { entry: u64 },
+    Import { parts: Parts, room: usize },
+    Export { room: usize },
 }
 
-/// All five, with rooms and numbers around the edges.
-fn questions(random: &mut Random, way: Way, bytes: &[u8]) -> [Question; 5] {
+/// Where the bytes of an import are cut: file row, batch row and lines follow one another.
+#[derive(Clone, Copy, Debug)]
+struct Parts {
+    file_row: usize,
+    batch_row: usize,
+}
+
+impl Parts {
+    /// Mostly where the rows end, if there are as many bytes.
+    fn of(random: &mut Random, bytes: &[u8]) -> Self {
+        let [file_row, batch_row] = [FILE_ROW, BATCH_ROW].map(|length| match random.below(20) {
+            0 => random.below(200),
+            1 => length - 1,
+            2 => length + 1,
+            _ => length,
+        });
+        let file_row = file_row.min(bytes.len());
+        Parts { file_row, batch_row: batch_row.min(bytes.len() - file_row) }
+    }
+
+    fn split(self, bytes: &[u8]) -> [&[u8]; 3] {
+        let (file_row, rest) = bytes.split_at(self.file_row);
+        let (batch_row, lines) = rest.split_at(self.batch_row);
+        [file_row, batch_row, lines]
+    }
+}
+
+fn import(parts: Parts, bytes: &[u8]) -> Result<Vec<u8>, independent::Refusal> {
+    let [file_row, batch_row, lines] = parts.split(bytes);
+    independent::import(file_row, batch_row, lines)
+}
+
+/// All seven, with rooms and numbers around the edges.
+fn questions(random: &mut Random, way: Way, bytes: &[u8]) -> [Question; 7] {
     let entry = entry(random, bytes);
+    let parts = Parts::of(random, bytes);
     [
         Question::Check,
         Question::Read { room: room(random, independent::read(way, bytes)) },
         Question::Write { room: room(random, independent::write(way, bytes)) },
         Question::Alter { entry, amount: amount(random) },
         Question::Addendum { entry },
+        Question::Import { parts, room: room(random, import(parts, bytes)) },
+        Question::Export { room: room(random, independent::export(bytes)) },
     ]
 }
 
@@ -74,13 +114,13 @@ fn amount(random: &mut Random) -> u64 {
     }
 }
 
-/// A file or a table in order, one that was damaged, or bytes that were never either. Some files
-/// have the other way than the one that is asked.
+/// A file, a table or a list with its rows in order, one that was damaged, or bytes that were never
+/// any of them. Some files have the other way than the one that is asked.
 fn input(random: &mut Random, way: Way) -> Vec<u8> {
     let plan = any_plan(random);
     let way = if random.one_in(20) { *random.pick(&Way::BOTH) } else { way };
     let file = |file: Vec<u8>| ways::in_way(way, &file);
-    match random.below(16) {
+    match random.below(20) {
         0 => noise(random, way),
         1 => spliced(random, way, &file(plan.file())),
         2 => flipped(random, &file(plan.file())),
@@ -94,8 +134,18 @@ fn input(random: &mut Random, way: Way) -> Vec<u8> {
             let damaged = lined(&damaged(random, plan.file()));
             random_end_damage(random, &damaged)
         }
+        14..=17 => list(random, &plan),
         _ => file(damaged(random, plan.file())),
     }
+}
+
+/// The rows of a plan's first batch and its list, in half of the cases damaged.
+fn list(random: &mut Random, plan: &Plan) -> Vec<u8> {
+    let List { file_row, batch_row, mut lines } = list_of(random, plan, 0);
+    for _ in 0..random.below(2) * (1 + random.below(3)) {
+        lines = random_list_damage(random, &lines);
+    }
+    [file_row, batch_row, lines].concat()
 }
 
 fn any_plan(random: &mut Random) -> Plan {
@@ -201,7 +251,10 @@ fn ask(tally: &mut Tally, way: Way, question: Question, bytes: &[u8]) {
 
 fn room_of(question: Question) -> usize {
     match question {
-        Question::Read { room } | Question::Write { room } => room,
+        Question::Read { room }
+        | Question::Write { room }
+        | Question::Import { room, .. }
+        | Question::Export { room } => room,
         _ => 0,
     }
 }
@@ -224,6 +277,14 @@ fn put(
             Question::Read { .. } => ach_read(way, file, length, space, size, first),
             Question::Write { .. } => ach_write(way, file, length, space, size, first),
             Question::Addendum { entry } => ach_addendum(way, file, length, entry, first, second),
+            Question::Export { .. } => ach_export(file, length, space, size, first),
+            Question::Import { parts, .. } => {
+                let [file_row, batch_row, lines] = parts.split(lent.bytes());
+                let (one, other) = (file_row.as_ptr(), batch_row.as_ptr());
+                let (one_length, other_length) = (file_row.len(), batch_row.len());
+                let (list, n) = (lines.as_ptr(), lines.len());
+                ach_import(one, one_length, other, other_length, list, n, space, size, first)
+            }
             Question::Alter { entry, amount } => {
                 let mut difference = PATTERN as i64;
                 let answer = ach_alter(way, file, length, entry, amount, &mut difference);
@@ -239,31 +300,33 @@ type Expected = (u64, [u64; NUMBERS], Vec<u8>);
 
 /// What the independent implementation makes of the question.
 fn expected(way: Way, question: Question, bytes: &[u8]) -> Expected {
-    let mut numbers = [PATTERN; NUMBERS];
     let mut memory = vec![EMPTY; room_of(question)];
+    let length = |length: usize| vec![length as u64];
     let outcome = match question {
-        Question::Check => independent::check(way, bytes).map(|held| {
-            numbers = numbers_of(&held);
-        }),
-        Question::Read { .. } => independent::read_into(way, bytes, &mut memory).map(|length| {
-            numbers[0] = length as u64;
-        }),
-        Question::Write { .. } => independent::write_into(way, bytes, &mut memory).map(|length| {
-            numbers[0] = length as u64;
-        }),
+        Question::Check => independent::check(way, bytes).map(|held| numbers_of(&held).to_vec()),
+        Question::Read { .. } => independent::read_into(way, bytes, &mut memory).map(length),
+        Question::Write { .. } => independent::write_into(way, bytes, &mut memory).map(length),
+        Question::Export { .. } => independent::export_into(bytes, &mut memory).map(length),
+        Question::Import { parts, .. } => {
+            let [file_row, batch_row, lines] = parts.split(bytes);
+            independent::import_into(file_row, batch_row, lines, &mut memory).map(length)
+        }
         Question::Alter { entry, amount } => {
             memory = bytes.to_vec();
-            independent::alter(way, &mut memory, entry, amount).map(|difference| {
-                numbers[0] = difference as u64;
-            })
+            let altered = independent::alter(way, &mut memory, entry, amount);
+            altered.map(|difference| vec![difference as u64])
         }
-        Question::Addendum { entry } => {
-            independent::addendum(way, bytes, entry).map(|(start, length)| {
-                numbers[..2].copy_from_slice(&[start as u64, length as u64]);
-            })
-        }
+        Question::Addendum { entry } => independent::addendum(way, bytes, entry)
+            .map(|(start, length)| vec![start as u64, length as u64]),
     };
-    (outcome.map_or_else(crate::tally::answer, |()| 0), numbers, memory)
+    let mut numbers = [PATTERN; NUMBERS];
+    match outcome {
+        Ok(written) => {
+            numbers[..written.len()].copy_from_slice(&written);
+            (0, numbers, memory)
+        }
+        Err(refusal) => (crate::tally::answer(refusal), numbers, memory),
+    }
 }
 
 fn numbers_of(held: &independent::Acceptance) -> [u64; NUMBERS] {

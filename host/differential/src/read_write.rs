@@ -1,7 +1,7 @@
 //! Reading and writing: the same table or file in rooms of every size, and nothing else touched.
 
 use crate::tally::{Outcome, Tally, PATTERN};
-use crate::{ways, Run};
+use crate::{rooms, ways, Run};
 use ach::boundary::{ach_read, ach_write};
 use generate::damage::{random_damage, resealed};
 use generate::lines::{lined, random_end_damage, with_end, WRONG_ENDS};
@@ -12,10 +12,6 @@ use generate::{big_file, near_limit, plan, sample, Batch, BigFile, Plan, Random}
 use independent::{Refusal, Way};
 
 const DEFAULT_CASES: u64 = 20_000;
-
-/// What the lent room holds before the call.
-const PATTERN_BYTE: u8 = 0xA5;
-const NO_ROOM: Refusal = Refusal { number: 23, record: 0, field: 0 };
 
 /// The shape of both functions: the way, input and its length, room and its length, the result's
 /// length.
@@ -65,8 +61,7 @@ fn write(tally: &mut Tally, about: &str, table: &[u8]) {
     tally.holds("the same records in both ways", table, twins);
 }
 
-/// Rooms of none, one too few, just enough, one more and many more bytes than the result needs;
-/// for a refusal, none and plenty.
+/// In rooms of all sizes that matter.
 fn in_all_rooms(
     tally: &mut Tally,
     about: &str,
@@ -74,13 +69,7 @@ fn in_all_rooms(
     input: &[u8],
     result: &Result<Vec<u8>, Refusal>,
 ) {
-    let rooms = match result {
-        Ok(bytes) => {
-            let need = bytes.len();
-            vec![0, need - 1, need, need + 1, 2 * need + 1_000]
-        }
-        Err(_) => vec![0, 2 * input.len() + 2_000],
-    };
+    let rooms = rooms::around(result, 2 * input.len() + 2_000);
     let result = result.as_deref().map_err(|refusal| *refusal);
     for room in rooms {
         in_room(tally, about, call, input, result, room);
@@ -95,24 +84,11 @@ fn in_room(
     result: Result<&[u8], Refusal>,
     room: usize,
 ) {
-    let mut lent = vec![PATTERN_BYTE; room];
-    let mut length = PATTERN;
     let number = ways::number(way, tally.cases());
-    // SAFETY: both pointers come from slices of the lengths given.
-    let answer =
-        unsafe { call(number, input.as_ptr(), input.len(), lent.as_mut_ptr(), room, &mut length) };
-    let given = Outcome { answer, numbers: [length], memory: &lent };
-
-    let mut memory = vec![PATTERN_BYTE; room];
-    let expected = match result {
-        Ok(bytes) if bytes.len() <= room => {
-            memory[..bytes.len()].copy_from_slice(bytes);
-            Outcome { answer: 0, numbers: [bytes.len() as u64], memory: &memory }
-        }
-        Ok(_) => Outcome::refused(NO_ROOM, &memory),
-        Err(refusal) => Outcome::refused(refusal, &memory),
-    };
-    tally.compare(&format!("{about}, room {room}"), input, given, expected);
+    rooms::in_room(tally, about, input, result, room, |space, size, length| {
+        // SAFETY: both pointers come from slices of the lengths given.
+        unsafe { call(number, input.as_ptr(), input.len(), space, size, length) }
+    });
 }
 
 fn bad_inputs(tally: &mut Tally) {

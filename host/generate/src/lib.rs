@@ -7,6 +7,7 @@
 pub mod columns;
 pub mod damage;
 pub mod lines;
+pub mod lists;
 mod plan;
 mod random;
 mod shapes;

@@ -1,4 +1,4 @@
-//! Checking, reading, writing and altering ACH payment files, in plain Rust.
+//! Checking, reading, writing and altering ACH payment files, and client lists, in plain Rust.
 //!
 //! Written from the scope paper and its change requests alone. The proved library of Qalarimo ACH is tested against this
 //! crate, and timed against it, so nothing here is taken from there.
@@ -6,6 +6,7 @@
 mod alter;
 mod check;
 mod code;
+mod comma;
 mod field;
 mod layout;
 mod outcome;
@@ -14,6 +15,7 @@ mod table;
 
 pub use alter::{addendum, alter};
 pub use check::check;
+pub use comma::{export, export_into, import, import_into};
 pub use outcome::{line, reason, Acceptance, Refusal};
 pub use records::Way;
 pub use table::{read, read_into, write, write_into};

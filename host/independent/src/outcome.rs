@@ -28,6 +28,10 @@ pub mod reason {
     pub const TABLE_SHAPE: u8 = 24;
     pub const NO_SUCH_ENTRY: u8 = 25;
     pub const LINE_END: u8 = 26;
+    /// These three are of a client's list, and its line stands for the record.
+    pub const NO_LINE: u8 = 29;
+    pub const LINE_AMOUNT: u8 = 30;
+    pub const LINE_FIELD_LENGTH: u8 = 32;
 }
 
 /// Why something was refused, and where; record and field are 0 where there is no place to name.

@@ -8,10 +8,10 @@ use crate::outcome::{reason, Acceptance, Refusal};
 use crate::records::{Records, Way};
 use std::ops::Range;
 
-const COUNT_LENGTH: usize = 6;
-const HEADER_ROW: usize = 85;
-const BATCH_ROW: usize = 95;
-const ENTRY_ROW: usize = 93;
+pub const COUNT_LENGTH: usize = 6;
+pub const HEADER_ROW: usize = 85;
+pub const BATCH_ROW: usize = 95;
+pub const ENTRY_ROW: usize = 93;
 const ADDENDUM_ROW: usize = 80;
 
 /// Columns 4-34 of record 1, which open its row, and columns 41-94, which close it.
@@ -21,7 +21,7 @@ const HEADER_RIGHT: Range<usize> = 40..94;
 const BATCH_LEFT: Range<usize> = 1..75;
 const BATCH_RIGHT: Range<usize> = 79..94;
 /// Columns 2-94 of record 6.
-const ENTRY_PART: Range<usize> = 1..94;
+pub const ENTRY_PART: Range<usize> = 1..94;
 
 /// The pay table of a file.
 pub fn read(way: Way, file: &[u8]) -> Result<Vec<u8>, Refusal> {
@@ -53,9 +53,14 @@ pub fn write(way: Way, table: &[u8]) -> Result<Vec<u8>, Refusal> {
 
 /// Writes the file that a pay table stands for into the room lent, and tells its length.
 pub fn write_into(way: Way, table: &[u8], room: &mut [u8]) -> Result<usize, Refusal> {
-    let file = write(way, table)?;
-    room.get_mut(..file.len()).ok_or(Refusal::without_place(reason::ROOM))?.copy_from_slice(&file);
-    Ok(file.len())
+    put_in(room, &write(way, table)?)
+}
+
+/// Puts a result into the front of the room, if it fits, and tells its length.
+pub fn put_in(room: &mut [u8], result: &[u8]) -> Result<usize, Refusal> {
+    let front = room.get_mut(..result.len()).ok_or(Refusal::without_place(reason::ROOM))?;
+    front.copy_from_slice(result);
+    Ok(result.len())
 }
 
 fn table_length(acceptance: &Acceptance) -> usize {
@@ -119,15 +124,15 @@ fn join(row: &mut [u8], left: &[u8], right: &[u8]) {
 }
 
 /// A table of right shape.
-struct Table<'t> {
+pub struct Table<'t> {
     header: &'t [u8; HEADER_ROW],
     batches: &'t [[u8; BATCH_ROW]],
-    entries: &'t [[u8; ENTRY_ROW]],
+    pub entries: &'t [[u8; ENTRY_ROW]],
     addenda: &'t [[u8; ADDENDUM_ROW]],
 }
 
 impl<'t> Table<'t> {
-    fn parse(bytes: &'t [u8]) -> Option<Table<'t>> {
+    pub fn parse(bytes: &'t [u8]) -> Option<Table<'t>> {
         let mut rest = bytes;
         let header = section(&mut rest)?;
         let batches: &[[u8; BATCH_ROW]] = section(&mut rest)?;

@@ -120,6 +120,18 @@ pub fn union() -> Plan {
     plan
 }
 
+/// What the client's list `team.csv` is imported as.
+pub fn team() -> Plan {
+    let mut plan = sample();
+    plan.batches[0].entries = entries(&[
+        (22, 32_207_038, "4410-22871", 200_000, "E-2001", "MARLOWE, ADA"),
+        (22, 32_207_038, "009831740", 199_999, "E-2002", "OKAFOR, BEN"),
+        (32, 5_300_021, "CU-7K2B", 25_000, "E-2003", "THE \"RED\" HOUSE"),
+        (22, 2_130_264, "70-000004", 1_250, "", "DE LUCA ELENA"),
+    ]);
+    plan
+}
+
 /// After the sample in source document 001, with the bank's number where the sample has blanks.
 pub fn loans() -> Plan {
     let bank = 55_555_555;

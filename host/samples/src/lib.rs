@@ -1,10 +1,11 @@
 //! The files in the folder `samples`: accepted ones after the banks' documents and after the
 //! story, refused ones made from them. What has to be said of each stands in `samples/index`, and
-//! in `samples/index-lined` for files with CR LF behind every record; both were written from the
-//! rules and by nobody's program.
+//! in `samples/index-lined` for files with CR LF behind every record, and in `samples/index-lists`
+//! for client lists; all were written from the rules and by nobody's program.
 
 mod accepted;
 mod lined;
+mod lists;
 mod refused;
 
 use generate::{sample, Plan};
@@ -25,6 +26,7 @@ pub fn all() -> Vec<Sample> {
     }
     samples.extend(refused::all());
     samples.extend(lined::all());
+    samples.extend(lists::all());
     samples
 }
 
@@ -40,6 +42,7 @@ fn plans() -> Vec<(&'static str, Plan)> {
         ("taxes", accepted::taxes()),
         ("gaps", accepted::gaps()),
         ("union", accepted::union()),
+        ("team", accepted::team()),
     ]
 }
 
@@ -51,6 +54,12 @@ pub fn index() -> Vec<(&'static str, &'static str)> {
 /// Every file that is checked as one with CR LF behind every record, and the line due.
 pub fn lined_index() -> Vec<(&'static str, &'static str)> {
     entries_of(include_str!("../../../samples/index-lined"))
+}
+
+/// Every list that is imported with the rows `team.file-row` and `team.batch-row`, and the line due:
+/// that of the file which its table is written to, or that of its refusal.
+pub fn list_index() -> Vec<(&'static str, &'static str)> {
+    entries_of(include_str!("../../../samples/index-lists"))
 }
 
 fn entries_of(index: &'static str) -> Vec<(&'static str, &'static str)> {

@@ -28,17 +28,17 @@ fn the_files_are_as_they_were_made() {
 fn every_file_is_known() {
     let mut there = names_in("");
     there.extend(names_in("refused/"));
-    for other in ["README.md", "index", "index-lined", "refused"] {
+    for other in ["README.md", "index", "index-lined", "index-lists", "refused"] {
         assert!(there.remove(other), "{other}");
     }
     let made: BTreeSet<String> = samples::all().into_iter().map(|sample| sample.name).collect();
     assert_eq!(there, made);
-    let checked: BTreeSet<String> =
-        made.into_iter().filter(|name| name.ends_with(".ach")).collect();
-    let mut listed: Vec<String> =
-        indexes().into_iter().map(|(_, name, _)| name.to_string()).collect();
+    let files = indexes().into_iter().map(|(_, name, _)| name);
+    let lists = samples::list_index().into_iter().map(|(name, _)| name);
+    let mut listed: Vec<&str> = files.chain(lists).collect();
     listed.sort();
-    assert_eq!(checked.into_iter().collect::<Vec<String>>(), listed);
+    let is_listed = |name: &&str| name.ends_with(".ach") || name.ends_with(".csv");
+    assert_eq!(made.iter().map(String::as_str).filter(is_listed).collect::<Vec<_>>(), listed);
 }
 
 /// Both indexes: the way of a file, its name, and its line.
@@ -56,6 +56,34 @@ fn every_file_has_its_line() {
         assert_eq!(way == Way::Lined, name.ends_with("-lined.ach"), "{name}");
         assert_eq!(line.starts_with("NO "), name.starts_with("refused/"), "{name}");
     }
+}
+
+#[test]
+fn every_list_has_its_line() {
+    let (file_row, batch_row) = (content("team.file-row"), content("team.batch-row"));
+    for (name, line) in samples::list_index() {
+        let table = independent::import(&file_row, &batch_row, &content(name));
+        let held = table.and_then(|table| {
+            let file = independent::write(Way::Plain, &table)?;
+            independent::check(Way::Plain, &file)
+        });
+        assert_eq!(independent::line(&held), line, "{name}");
+        assert_eq!(line.starts_with("NO "), name.starts_with("refused/"), "{name}");
+    }
+}
+
+/// The list gives the table, and the table's own list gives it again.
+#[test]
+fn the_list_and_its_table() {
+    let (file_row, batch_row) = (content("team.file-row"), content("team.batch-row"));
+    let (list, table) = (content("team.csv"), content("team.table"));
+    assert_eq!((file_row.len(), batch_row.len()), (85, 95));
+    assert!(batch_row.ends_with(b"000000"));
+    assert_eq!(independent::import(&file_row, &batch_row, &list).as_ref(), Ok(&table));
+    let exported = independent::export(&table).unwrap();
+    assert_ne!(exported, list);
+    assert!(exported.ends_with(b"\"70-000004\",\"12.50\",\"\",\"DE LUCA ELENA\"\r\n"));
+    assert_eq!(independent::import(&file_row, &batch_row, &exported), Ok(table));
 }
 
 /// The same records as in their twins, two bytes more for each; in the other way it is refused.
