@@ -1,6 +1,6 @@
--- What the loops and the straight-line sums of the field rules come to.
+-- What the loops of the field rules come to.
 -- Assumes nothing.
-use Prim.Native.Nat.{ℕ, suc, _+_, _-_, _*_, _<_, _≤_}
+use Prim.Native.Nat.{ℕ, suc, _+_, _-_, _<_, _≤_}
 use native.Mathlib.Numerals.{add-one}
 use native.Mathlib.Omega.{arith}
 use mathlib.Core.Path.{_≡_, refl}
@@ -11,29 +11,10 @@ use borrow.Author.Tests.{ne-eqb}
 use lib.Dec.{eqb}
 use lib.ListN.{length, getD, drop}
 use lib.Seq.{drop-cons}
-use Rattle.text.specs.Decimal.{pick, every, digitOf}
+use Rattle.text.specs.Decimal.{pick, every}
 use Rattle.kinds.specs.declared.Code.{Code}
 use Rattle.kinds.specs.Codes.{codeOf}
-use Rattle.kinds.specs.Kinds.{weights, weighed, blank, unbroken}
-
--- three digits under the weights 3, 7 and 1
-abbrev pub grouped : ℕ → ℕ → ℕ → ℕ
-grouped a b c = 3 * digitOf a + 7 * digitOf b + digitOf c
-
--- eight digits are weighed as three groups, the last with a 0 behind it
-pub weighed-groups : (s : List ℕ) → length s ≡ 8
-    → grouped (getD s 0 0) (getD s 1 0) (getD s 2 0) + grouped (getD s 3 0) (getD s 4 0) (getD s 5 0) + grouped (getD s 6 0) (getD s 7 0) 48 ≡ weighed weights s
-unfolding weighed
-weighed-groups [] e = absurd (omega arith)
-weighed-groups (a ∷ []) e = absurd (omega arith)
-weighed-groups (a ∷ b ∷ []) e = absurd (omega arith)
-weighed-groups (a ∷ b ∷ c ∷ []) e = absurd (omega arith)
-weighed-groups (a ∷ b ∷ c ∷ d ∷ []) e = absurd (omega arith)
-weighed-groups (a ∷ b ∷ c ∷ d ∷ f ∷ []) e = absurd (omega arith)
-weighed-groups (a ∷ b ∷ c ∷ d ∷ f ∷ g ∷ []) e = absurd (omega arith)
-weighed-groups (a ∷ b ∷ c ∷ d ∷ f ∷ g ∷ h ∷ []) e = absurd (omega arith)
-weighed-groups (a ∷ b ∷ c ∷ d ∷ f ∷ g ∷ h ∷ i ∷ []) e = omega arith
-weighed-groups (a ∷ b ∷ c ∷ d ∷ f ∷ g ∷ h ∷ i ∷ j ∷ s) e = absurd (omega arith)
+use Rattle.kinds.specs.Kinds.{blank, unbroken}
 
 -- no blank stands just before another byte, in what follows a byte b
 unfoldable pub pairsFrom : ℕ → List ℕ → Bool

@@ -1,7 +1,8 @@
-// The kinds of field that look at their own bytes alone, the rules of single fields, and the transaction codes.
+// The kinds of field that look at their own bytes alone, the rules of single fields, the check digit, and the transaction codes.
 use layout::Fault;
 
 pub mod codes;
+pub mod groups;
 pub mod own;
 pub mod texts;
 

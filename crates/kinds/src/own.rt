@@ -1,15 +1,17 @@
 // The rules of single fields that look at nothing else.
 use crate::Mark;
+use crate::groups;
 use crate::texts;
 use layout::Fault;
 use layout::Own;
-ghost use Prim.Native.Nat.{_+_, _*_, _≤_, _-_};
+ghost use Prim.Native.Nat.{_≤_};
 ghost use mathlib.Core.Path.{_≡_};
 ghost use mathlib.Core.Bool.{true};
-ghost use lib.ListN.{length, getD};
-ghost use Rattle.text.specs.Decimal.{every, digitOf};
+ghost use lib.ListN.{length};
+ghost use Rattle.text.specs.Decimal.{every};
 ghost use Rattle.layout.specs.Fits.{ownFits};
-ghost use Rattle.kinds.specs.Kinds.{realTime, time, checkDigit, destination, origin, modifier, class, entryClass, bank, isAccount, unbroken, account, flag, ownRule};
+ghost use Rattle.kinds.specs.Groups.{groupSums};
+ghost use Rattle.kinds.specs.Kinds.{realTime, time, destination, origin, modifier, class, entryClass, bank, isAccount, unbroken, account, flag, ownRule};
 
 fn real_time(hour: u64, minute: u64) -> bool
     ensures { λ r. ⌜ r ≡ realTime hour minute ⌝ }
@@ -34,24 +36,8 @@ fn time(p: &[u8]) -> Mark
     Mark::Right
 }
 
-// Three digits under the weights 3, 7 and 1.
-fn group(a: u8, b: u8, c: u8) -> u64
-    ensures { λ r. ⌜ (r ≡ 3 * digitOf a + 7 * digitOf b + digitOf c) × (r ≤ 99) ⌝ }
-{
-    3 * text::digit(a) + 7 * text::digit(b) + text::digit(c)
-}
-
-// The digit that brings the weighed sum of eight digits to a multiple of ten.
-pub fn check_digit(s: &[u8]) -> u64
-    requires { ⌜ length (now s) ≡ 8 ⌝ }
-    ensures { λ r. ⌜ r ≡ checkDigit (now (s .entry)) ⌝ }
-{
-    let sum = group(s[0], s[1], s[2]) + group(s[3], s[4], s[5]) + group(s[6], s[7], 48);
-    (10 - sum % 10) % 10
-}
-
-fn destination(p: &[u8]) -> Mark
-    requires { ⌜ length (now p) ≡ 10 ⌝ }
+fn destination(groups: &[u8; 1000], p: &[u8]) -> Mark
+    requires { ⌜ (length (now p) ≡ 10) × (now groups ≡ groupSums) ⌝ }
     ensures { λ r. ⌜ r ≡ destination (now (p .entry)) ⌝ }
 {
     if !texts::leads(p) {
@@ -60,7 +46,7 @@ fn destination(p: &[u8]) -> Mark
     if !text::digits(&p[1..10]) {
         return Mark::Wrong(Fault::Digits);
     }
-    if text::number(&p[9..10]) != check_digit(&p[1..9]) {
+    if !groups::balanced(groups, text::number(&p[1..9]), text::number(&p[9..10])) {
         return Mark::Wrong(Fault::CheckDigit);
     }
     Mark::Right
@@ -187,12 +173,12 @@ pub fn flag(p: &[u8]) -> Mark
 }
 
 // A field with a rule of its own.
-pub fn own(o: Own, p: &[u8]) -> Mark
-    requires { ⌜ ownFits o (length (now p)) ≡ true ⌝ }
+pub fn own(groups: &[u8; 1000], o: Own, p: &[u8]) -> Mark
+    requires { ⌜ (ownFits o (length (now p)) ≡ true) × (now groups ≡ groupSums) ⌝ }
     ensures { λ r. ⌜ r ≡ ownRule o (now (p .entry)) ⌝ }
 {
     match o {
-        Own::Destination => destination(p),
+        Own::Destination => destination(groups, p),
         Own::Origin => origin(p),
         Own::Time => time(p),
         Own::Modifier => modifier(p),

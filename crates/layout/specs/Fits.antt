@@ -25,7 +25,7 @@ ownFits Own.Flag w = true
 
 abbrev pub nearFits : Near → ℕ → Bool
 nearFits Near.Code w = numberWide w
-nearFits Near.CheckDigit w = numberWide w
+nearFits Near.CheckDigit w = eqb w 1
 nearFits Near.Amount w = numberWide w
 nearFits Near.Trace w = eqb w 15
 nearFits Near.EntryTrace w = numberWide w
