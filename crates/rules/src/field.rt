@@ -15,6 +15,7 @@ ghost use lib.Dec.{leb};
 ghost use lib.ListN.{length, getD};
 ghost use Rattle.layout.specs.Fields.{rowsOf, noRow};
 ghost use Rattle.layout.specs.Fits.{kindFits};
+ghost use Rattle.kinds.specs.Groups.{groupSums};
 ghost use Rattle.rules.specs.Field.{sumOf, countRule, hashRule, totalRule, asBatchRule, kindRule, fieldOf};
 ghost use Rattle.rules.specs.Small.{Small};
 
@@ -98,8 +99,15 @@ fn place(column: u8) -> usize
     column as usize
 }
 
-fn kind_check(sums: Sums, header: &[u8], rec: &[u8], kind: Kind, p: &[u8]) -> Mark
-    requires { ⌜ (length (now header) ≡ 94) × (length (now rec) ≡ 94) × (kindFits kind (length (now p)) ≡ true) × Small sums ⌝ }
+fn kind_check(
+    groups: &[u8; 1000],
+    sums: Sums,
+    header: &[u8],
+    rec: &[u8],
+    kind: Kind,
+    p: &[u8],
+) -> Mark
+    requires { ⌜ (length (now header) ≡ 94) × (length (now rec) ≡ 94) × (kindFits kind (length (now p)) ≡ true) × Small sums × (now groups ≡ groupSums) ⌝ }
     ensures { λ r. ⌜ r ≡ kindRule sums (now (header .entry)) (now (rec .entry)) kind (now (p .entry)) ⌝ }
 {
     match kind {
@@ -113,8 +121,8 @@ fn kind_check(sums: Sums, header: &[u8], rec: &[u8], kind: Kind, p: &[u8]) -> Ma
         Kind::Optional => texts::optional_text(p),
         Kind::Mandatory => texts::mandatory_text(p),
         Kind::Date => texts::date(p),
-        Kind::Own(rule) => own::own(rule, p),
-        Kind::Near(rule) => near::near(sums, header, rec, rule, p),
+        Kind::Own(rule) => own::own(groups, rule, p),
+        Kind::Near(rule) => near::near(groups, sums, header, rec, rule, p),
         Kind::AsBatch(column) => as_batch(header, place(column), p),
         Kind::Count(which) => count_rule(sum_of(sums, which), p),
         Kind::Hash(which) => hash_rule(sum_of(sums, which), p),
@@ -123,13 +131,20 @@ fn kind_check(sums: Sums, header: &[u8], rec: &[u8], kind: Kind, p: &[u8]) -> Ma
 }
 
 // Field k, from 0, of a record that is taken for this line.
-pub fn field(line: Line, k: usize, sums: Sums, header: &[u8], rec: &[u8]) -> Mark
-    requires { ⌜ (length (now header) ≡ 94) × (length (now rec) ≡ 94) × Small sums ⌝ }
+pub fn field(
+    groups: &[u8; 1000],
+    line: Line,
+    k: usize,
+    sums: Sums,
+    header: &[u8],
+    rec: &[u8],
+) -> Mark
+    requires { ⌜ (length (now header) ≡ 94) × (length (now rec) ≡ 94) × Small sums × (now groups ≡ groupSums) ⌝ }
     ensures { λ r. ⌜ r ≡ fieldOf sums (now (header .entry)) (now (rec .entry)) (getD (rowsOf line) k noRow) ⌝ }
 {
     let row = layout::row_of(line, k);
     let from = place(row.first) - 1;
     let to = place(row.last);
     let kind = row.kind;
-    kind_check(sums, header, rec, kind, &rec[from..to])
+    kind_check(groups, sums, header, rec, kind, &rec[from..to])
 }

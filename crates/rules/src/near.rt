@@ -3,7 +3,7 @@ use crate::Said;
 use crate::Sums;
 use kinds::Mark;
 use kinds::codes;
-use kinds::own;
+use kinds::groups;
 use layout::Fault;
 use layout::Near;
 ghost use Prim.Native.Nat.{_≤_};
@@ -11,6 +11,7 @@ ghost use mathlib.Core.Path.{_≡_};
 ghost use mathlib.Core.Bool.{true};
 ghost use lib.ListN.{length};
 ghost use Rattle.layout.specs.Fits.{nearFits};
+ghost use Rattle.kinds.specs.Groups.{groupSums};
 ghost use Rattle.rules.specs.Quick.{saidOf};
 ghost use Rattle.rules.specs.Field.{entryCode, entryBank, entryAmount, entryTrace, traceNumber, batchClass, batchNumber, codeRule, checkDigitRule, amountRule, traceFollows, traceRule, entryTraceRule, batchNumberRule, nearRule};
 
@@ -93,14 +94,14 @@ pub(crate) fn code_rule(header: &[u8], p: &[u8]) -> Mark
     Mark::Right
 }
 
-pub(crate) fn check_digit_rule(rec: &[u8], p: &[u8]) -> Mark
-    requires { ⌜ (length (now rec) ≡ 94) × (length (now p) ≤ 18) ⌝ }
+fn check_digit_rule(groups: &[u8; 1000], rec: &[u8], p: &[u8]) -> Mark
+    requires { ⌜ (length (now rec) ≡ 94) × (length (now p) ≡ 1) × (now groups ≡ groupSums) ⌝ }
     ensures { λ r. ⌜ r ≡ checkDigitRule (now (rec .entry)) (now (p .entry)) ⌝ }
 {
     if !text::digits(p) {
         return Mark::Wrong(Fault::Digits);
     }
-    if text::number(p) != own::check_digit(&rec[3..11]) {
+    if !groups::balanced(groups, entry_bank(rec), text::number(p)) {
         return Mark::Wrong(Fault::CheckDigit);
     }
     Mark::Right
@@ -172,13 +173,20 @@ fn batch_number_rule(sums: Sums, p: &[u8]) -> Mark
 }
 
 // A field with a rule that looks beyond it.
-pub(crate) fn near(sums: Sums, header: &[u8], rec: &[u8], rule: Near, p: &[u8]) -> Mark
-    requires { ⌜ (length (now header) ≡ 94) × (length (now rec) ≡ 94) × (nearFits rule (length (now p)) ≡ true) ⌝ }
+pub(crate) fn near(
+    groups: &[u8; 1000],
+    sums: Sums,
+    header: &[u8],
+    rec: &[u8],
+    rule: Near,
+    p: &[u8],
+) -> Mark
+    requires { ⌜ (length (now header) ≡ 94) × (length (now rec) ≡ 94) × (nearFits rule (length (now p)) ≡ true) × (now groups ≡ groupSums) ⌝ }
     ensures { λ r. ⌜ r ≡ nearRule sums (now (header .entry)) (now (rec .entry)) rule (now (p .entry)) ⌝ }
 {
     match rule {
         Near::Code => code_rule(header, p),
-        Near::CheckDigit => check_digit_rule(rec, p),
+        Near::CheckDigit => check_digit_rule(groups, rec, p),
         Near::Amount => amount_rule(rec, p),
         Near::Trace => trace_rule(sums, header, p),
         Near::EntryTrace => entry_trace_rule(sums, p),

@@ -5,11 +5,16 @@ use crate::Sums;
 use crate::near;
 use kinds::Mark;
 use kinds::codes;
+use kinds::groups;
 use kinds::own;
 use kinds::texts;
 ghost use mathlib.Core.Path.{_≡_};
+ghost use mathlib.Core.Bool.{_&&_};
 ghost use lib.ListN.{length};
-ghost use Rattle.rules.specs.Field.{traceNumber, traceRule};
+ghost use Rattle.layout.specs.Fields.{entry, part};
+ghost use Rattle.kinds.specs.Groups.{groupSums};
+ghost use Rattle.kinds.specs.Kinds.{bank};
+ghost use Rattle.rules.specs.Field.{entryBank, traceNumber, checkDigitRule, traceRule};
 ghost use Rattle.rules.specs.Quick.{saidOf, isRight, entryFront, entryBack, addendumAll};
 
 fn right(mark: Mark) -> bool
@@ -21,18 +26,29 @@ fn right(mark: Mark) -> bool
     }
 }
 
+// Fields 3 and 4 of an entry, with n for field 3's number, read already. The table is asked only of nine digits.
+fn routing_right(groups: &[u8; 1000], n: u64, rec: &[u8]) -> bool
+    requires { ⌜ (length (now rec) ≡ 94) × (n ≡ entryBank (now rec)) × (now groups ≡ groupSums) ⌝ }
+    ensures { λ r. ⌜ r ≡ isRight (bank (part entry 3 (now (rec .entry)))) && isRight (checkDigitRule (now (rec .entry)) (part entry 4 (now (rec .entry)))) ⌝ }
+{
+    let digit = &rec[11..12];
+    if !(right(own::bank(&rec[3..11])) & text::digits(digit)) {
+        return false;
+    }
+    groups::balanced(groups, n, text::number(digit))
+}
+
 // Fields 2 to 6 of an entry.
-pub fn entry_front(header: &[u8], said: Said, rec: &[u8]) -> bool
-    requires { ⌜ (length (now header) ≡ 94) × (length (now rec) ≡ 94) × (said ≡ saidOf (now rec)) ⌝ }
+pub fn entry_front(groups: &[u8; 1000], header: &[u8], said: Said, rec: &[u8]) -> bool
+    requires { ⌜ (length (now header) ≡ 94) × (length (now rec) ≡ 94) × (said ≡ saidOf (now rec)) × (now groups ≡ groupSums) ⌝ }
     ensures { λ r. ⌜ r ≡ entryFront (now (header .entry)) (now (rec .entry)) ⌝ }
 {
     let code = codes::code_of(said.code);
     let side = text::digits(&rec[1..3]) & codes::allowed(near::batch_class(header), code);
-    let bank = right(own::bank(&rec[3..11]));
-    let digit = right(near::check_digit_rule(rec, &rec[11..12]));
+    let routing = routing_right(groups, said.bank, rec);
     let account = right(own::account(&rec[12..29]));
     let amount = text::digits(&rec[29..39]) & codes::carries(code, said.amount);
-    side & bank & digit & account & amount
+    side & routing & account & amount
 }
 
 fn trace_right(sums: Sums, header: &[u8], n: u64, p: &[u8]) -> bool

@@ -39,7 +39,7 @@ part-kind-check-end c = omega (arith, (c .place2) .ensures, row-in ((c .before .
 
 -- src/field.rt:134:5
 kind-check-requires : tie.Need-kind-check-requires
-kind-check-requires c κs = ((c .before .before .before .before .before .before .pre) .0, (c .before .before .before .before .before .before .pre) .1, rw ((c .before .before .place) .ensures, (c .before .place2) .ensures) (part-fits ((c .before .before .before .row-of) .result) ((c .before .before .before .before .before .before .args) .rec .now) ((c .before .before .before .row-of) .ensures .1) ((c .before .before .before .before .before .before .pre) .1)), (c .before .before .before .before .before .before .pre) .2)
+kind-check-requires c κs = ((c .before .before .before .before .before .before .pre) .0, (c .before .before .before .before .before .before .pre) .1, rw ((c .before .before .place) .ensures, (c .before .place2) .ensures) (part-fits ((c .before .before .before .row-of) .result) ((c .before .before .before .before .before .before .args) .rec .now) ((c .before .before .before .row-of) .ensures .1) ((c .before .before .before .before .before .before .pre) .1)), (c .before .before .before .before .before .before .pre) .2, (c .before .before .before .before .before .before .pre) .3)
 
 -- src/field.rt:126:1
 returns : tie.Need-returns

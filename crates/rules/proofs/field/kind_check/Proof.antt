@@ -102,7 +102,7 @@ enum-known-kind-2 c = search needs
 
 -- src/field.rt:116:28
 own-requires : tie.Need-own-requires
-own-requires c κs = rw ((c .before .kind2) .given .1) at ((c .before .before .before .before .before .before .pre) .2)
+own-requires c κs = (rw ((c .before .kind2) .given .1) at ((c .before .before .before .before .before .before .pre) .2), (c .before .before .before .before .before .before .pre) .4)
 
 -- src/field.rt:117:20
 enum-known-kind-3 : tie.Need-enum-known-kind-3
@@ -110,7 +110,7 @@ enum-known-kind-3 c = search needs
 
 -- src/field.rt:117:29
 near-requires : tie.Need-near-requires
-near-requires c κs = ((c .before .before .before .before .before .before .pre) .0, (c .before .before .before .before .before .before .pre) .1, rw ((c .before .kind3) .given .1) at ((c .before .before .before .before .before .before .pre) .2))
+near-requires c κs = ((c .before .before .before .before .before .before .pre) .0, (c .before .before .before .before .before .before .pre) .1, rw ((c .before .kind3) .given .1) at ((c .before .before .before .before .before .before .pre) .2), (c .before .before .before .before .before .before .pre) .4)
 
 -- src/field.rt:118:23
 enum-known-kind-4 : tie.Need-enum-known-kind-4

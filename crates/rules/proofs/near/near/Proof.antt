@@ -26,7 +26,7 @@ enum-told-2 c = search needs
 
 -- src/near.rt:167:29
 check-digit-rule-requires : tie.Need-check-digit-rule-requires
-check-digit-rule-requires c κs = ((c .before .before .before .before .before .pre) .1, leb-true _ _ (rw ((c .enum-told2) .given .1) at ((c .before .before .before .before .before .pre) .2)))
+check-digit-rule-requires c κs = ((c .before .before .before .before .before .pre) .1, eqb-true _ _ (rw ((c .enum-told2) .given .1) at ((c .before .before .before .before .before .pre) .2)), (c .before .before .before .before .before .pre) .3)
 
 -- src/near.rt:168:25
 enum-told-3 : tie.Need-enum-told-3
