@@ -8,17 +8,25 @@ ghost use mathlib.Core.Bool.{true};
 ghost use Prim.Native.Nat.{_≤_};
 ghost use lib.ListN.{length, drop};
 ghost use Rattle.layout.specs.Fields.{rowsOf, firstField};
+ghost use Rattle.kinds.specs.Groups.{groupSums};
 ghost use Rattle.rules.specs.Quick.{saidOf};
 ghost use Rattle.records.specs.declared.Verdict.{Verdict};
 ghost use Rattle.records.specs.Run.{fieldsFrom};
 
-pub fn passes(line: Line, sums: Sums, header: &[u8], said: Said, rec: &[u8]) -> bool
-    requires { ⌜ (length (now header) ≡ 94) × (length (now rec) ≡ 94) × (said ≡ saidOf (now rec)) ⌝ }
+pub fn passes(
+    groups: &[u8; 1000],
+    line: Line,
+    sums: Sums,
+    header: &[u8],
+    said: Said,
+    rec: &[u8],
+) -> bool
+    requires { ⌜ (length (now header) ≡ 94) × (length (now rec) ≡ 94) × (said ≡ saidOf (now rec)) × (now groups ≡ groupSums) ⌝ }
     ensures { λ r. ⌜ (r ≡ true → fieldsFrom (firstField line) (rowsOf line) sums (now (header .entry)) (now (rec .entry)) ≡ Verdict.Passed) ⌝ }
 {
     match line {
         Line::Entry => {
-            if !quick::entry_front(header, said, rec) {
+            if !quick::entry_front(groups, header, said, rec) {
                 return false;
             }
             quick::entry_back(sums, header, said, rec)
@@ -29,11 +37,18 @@ pub fn passes(line: Line, sums: Sums, header: &[u8], said: Said, rec: &[u8]) -> 
 }
 
 // Where the walk along the table starts: behind its last row where the quick test passes.
-pub fn walk_from(line: Line, sums: Sums, header: &[u8], said: Said, rec: &[u8]) -> usize
-    requires { ⌜ (length (now header) ≡ 94) × (length (now rec) ≡ 94) × (said ≡ saidOf (now rec)) ⌝ }
+pub fn walk_from(
+    groups: &[u8; 1000],
+    line: Line,
+    sums: Sums,
+    header: &[u8],
+    said: Said,
+    rec: &[u8],
+) -> usize
+    requires { ⌜ (length (now header) ≡ 94) × (length (now rec) ≡ 94) × (said ≡ saidOf (now rec)) × (now groups ≡ groupSums) ⌝ }
     ensures { λ r. ⌜ (r ≤ length (rowsOf line)) × (fieldsFrom (firstField line) (drop r (rowsOf line)) sums (now (header .entry)) (now (rec .entry)) ≡ fieldsFrom (firstField line) (rowsOf line) sums (now (header .entry)) (now (rec .entry))) ⌝ }
 {
-    if passes(line, sums, header, said, rec) {
+    if passes(groups, line, sums, header, said, rec) {
         return layout::rows_in(line);
     }
     0

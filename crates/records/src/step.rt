@@ -14,20 +14,21 @@ ghost use Prim.Native.Nat.{_+_, _<_};
 ghost use mathlib.Core.Path.{_≡_};
 ghost use lib.ListN.{length};
 ghost use Rattle.layout.specs.Fields.{rowsOf, firstField};
+ghost use Rattle.kinds.specs.Groups.{groupSums};
 ghost use Rattle.rules.specs.Small.{Small};
 ghost use Rattle.records.specs.Fair.{Fair};
 ghost use Rattle.records.specs.Run.{fieldsFrom, bare, recordOf};
 
 // The first field that is wrong, if any, of a record that is taken for this line.
-pub fn fields(line: Line, sums: Sums, header: &[u8], rec: &[u8]) -> Verdict
-    requires { ⌜ (length (now header) ≡ 94) × (length (now rec) ≡ 94) × Small sums ⌝ }
+pub fn fields(groups: &[u8; 1000], line: Line, sums: Sums, header: &[u8], rec: &[u8]) -> Verdict
+    requires { ⌜ (length (now header) ≡ 94) × (length (now rec) ≡ 94) × Small sums × (now groups ≡ groupSums) ⌝ }
     ensures { λ r. ⌜ r ≡ fieldsFrom (firstField line) (rowsOf line) sums (now (header .entry)) (now (rec .entry)) ⌝ }
 {
     let count = layout::rows_in(line);
     let mut number = layout::first_field(line);
-    let mut k = quick::walk_from(line, sums, header, near::said(rec), rec);
+    let mut k = quick::walk_from(groups, line, sums, header, near::said(rec), rec);
     while k < count {
-        if let Mark::Wrong(fault) = field::field(line, k, sums, header, rec) {
+        if let Mark::Wrong(fault) = field::field(groups, line, k, sums, header, rec) {
             return Verdict::Failed(fault, number);
         }
         number += 1;
@@ -37,15 +38,15 @@ pub fn fields(line: Line, sums: Sums, header: &[u8], rec: &[u8]) -> Verdict
 }
 
 // One record in the state that the records before it left: its 94 columns, with no line end behind them.
-pub fn check(st: State, rec: &[u8]) -> Stepped
-    requires { ⌜ Fair st × (st .sums .records < 1000000) × (length (now rec) ≡ 94) ⌝ }
+pub fn check(groups: &[u8; 1000], st: State, rec: &[u8]) -> Stepped
+    requires { ⌜ Fair st × (st .sums .records < 1000000) × (length (now rec) ≡ 94) × (now groups ≡ groupSums) ⌝ }
     ensures { λ r. ⌜ (r ≡ recordOf st (bare (now (rec .entry)))) × Fair (r .state) ⌝ }
 {
     let place = st.place;
     let sums = st.sums;
     let header = st.header;
     let line = order::line_at(place, sums.records, rec[0]);
-    match fields(line, sums, &header, rec) {
+    match fields(groups, line, sums, &header, rec) {
         Verdict::Passed => Stepped {
             verdict: Verdict::Passed,
             state: tally::tally(st, line, rec),

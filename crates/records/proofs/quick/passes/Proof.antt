@@ -18,7 +18,7 @@ enum-told c = search needs
 
 -- src/quick.rt:22:17
 entry-front-requires : tie.Need-entry-front-requires
-entry-front-requires c κs = ((c .before .before .before .before .pre) .0, (c .before .before .before .before .pre) .1, (c .before .before .before .before .pre) .2)
+entry-front-requires c κs = ((c .before .before .before .before .pre) .0, (c .before .before .before .before .pre) .1, (c .before .before .before .before .pre) .2, (c .before .before .before .before .pre) .3)
 
 -- src/quick.rt:23:17
 returns : tie.Need-returns

@@ -18,10 +18,10 @@ use Rattle.rules.proofs.field.field.Reads as field-reads
 use Rattle.rules.proofs.near.said.Reads as said-reads
 
 abbrev Inv-loop : tie.InvT-loop
-Inv-loop line sums header rec count number₀ k₀ number k = (k ≤ length (rowsOf line)) × (number ≤ k + 1) × (fieldsFrom number (drop k (rowsOf line)) sums header rec ≡ fieldsFrom (firstField line) (rowsOf line) sums header rec)
+Inv-loop groups line sums header rec count number₀ k₀ number k = (k ≤ length (rowsOf line)) × (number ≤ k + 1) × (fieldsFrom number (drop k (rowsOf line)) sums header rec ≡ fieldsFrom (firstField line) (rowsOf line) sums header rec)
 
 abbrev μ-loop : tie.MeasureT-loop
-μ-loop line sums header rec count number₀ k₀ number k = count - k
+μ-loop groups line sums header rec count number₀ k₀ number k = count - k
 
 -- src/step.rt:26:9
 rows-in-requires : tie.Need-rows-in-requires Inv-loop μ-loop
@@ -37,7 +37,7 @@ said-requires c κs = search needs
 
 -- src/step.rt:28:9
 walk-from-requires : tie.Need-walk-from-requires Inv-loop μ-loop
-walk-from-requires c κs = ((c .before .before .before .before .before .pre) .0, (c .before .before .before .before .before .pre) .1, (c .said) .ensures)
+walk-from-requires c κs = ((c .before .before .before .before .before .pre) .0, (c .before .before .before .before .before .pre) .1, (c .said) .ensures, (c .before .before .before .before .before .pre) .3)
 
 -- src/step.rt:29:5
 loop-holds : tie.Need-loop-holds Inv-loop μ-loop
