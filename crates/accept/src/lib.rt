@@ -1,5 +1,6 @@
 // The public functions: every one takes any bytes, does its own checking, and grants or names the first refusal.
 use kinds::Mark;
+use kinds::groups;
 use layout::Answer;
 use layout::Checked;
 use layout::Fault;
@@ -79,6 +80,7 @@ pub fn check(way: Way, file: &[u8]) -> Checked
         return refused(Fault::Length, 0, 0);
     }
     let wide = layout::record_bytes(way);
+    let groups = groups::table();
     let mut out = refused(Fault::Length, 0, 0);
     let st = tally::start();
     let mut place = st.place;
@@ -101,9 +103,9 @@ pub fn check(way: Way, file: &[u8]) -> Checked
         let said = near::said(rec);
         let count = layout::rows_in(line);
         let mut number = layout::first_field(line);
-        let mut k = quick::walk_from(line, sums, &header, said, rec);
+        let mut k = quick::walk_from(&groups, line, sums, &header, said, rec);
         while k < count {
-            if let Mark::Wrong(fault) = field::field(line, k, sums, &header, rec) {
+            if let Mark::Wrong(fault) = field::field(&groups, line, k, sums, &header, rec) {
                 out = refused(fault, sums.records + 1, number);
                 break 'records;
             }
