@@ -2,6 +2,7 @@
 use crate::Cursor;
 use crate::walk;
 use forming::shape;
+use kinds::groups;
 use layout::Answer;
 use layout::Fault;
 use layout::RecordNo;
@@ -58,6 +59,7 @@ pub(crate) fn judged(table: &[u8]) -> Answer
     requires { ⌜ (shaped (now table) ≡ true) × (length (recordsOf (viewOfTable (now table))) ≤ 1000000) ⌝ }
     ensures { λ r. ⌜ r ≡ checkedOf Way.Plain (formed Way.Plain (now (table .entry))) .answer ⌝ }
 {
+    let groups = groups::table();
     let mut c = opened(table);
     let mut st = tally::start();
     loop {
@@ -67,7 +69,7 @@ pub(crate) fn judged(table: &[u8]) -> Answer
             return Answer::Granted;
         }
         let rec = walk::form(table, c, st);
-        let tried = step::check(st, &rec);
+        let tried = step::check(&groups, st, &rec);
         let verdict = tried.verdict;
         if let Verdict::Failed(fault, k) = verdict {
             return refused(fault, sums.records + 1, k);
