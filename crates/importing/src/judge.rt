@@ -1,5 +1,6 @@
 // The check of the file that the table will form.
 use crate::walk;
+use kinds::groups;
 use layout::Answer;
 use records::Verdict;
 use records::order;
@@ -21,6 +22,7 @@ pub(crate) fn judged(filerow: &[u8], batchrow: &[u8], lines: &[u8], count: usize
     requires { ⌜ (length (now filerow) ≡ 85) × (length (now batchrow) ≡ 95) × (linesAnswer 1 (linesIn (now lines)) ≡ Answer.Granted) × (count ≡ length (linesIn (now lines))) × (count ≤ 999996) ⌝ }
     ensures { λ r. ⌜ r ≡ checkedOf Way.Plain (formed Way.Plain (importTable (now (filerow .entry)) (now (batchrow .entry)) (now (lines .entry)))) .answer ⌝ }
 {
+    let groups = groups::table();
     let mut c = walk::opened(count);
     let mut st = tally::start();
     let mut at = 0;
@@ -35,7 +37,7 @@ pub(crate) fn judged(filerow: &[u8], batchrow: &[u8], lines: &[u8], count: usize
         let next = walk::next_line(lines, at, &batchrow[74..82], number, due);
         let row = next.row;
         let rec = walk::form(filerow, batchrow, &row, c, st);
-        let tried = step::check(st, &rec);
+        let tried = step::check(&groups, st, &rec);
         let verdict = tried.verdict;
         if let Verdict::Failed(fault, k) = verdict {
             return pass::refused(fault, sums.records + 1, k);
