@@ -22,7 +22,7 @@ fn is_quoted_data(b: u8) -> bool
     is_text_data(b) | (b == 44) | (b == 13) | (b == 10)
 }
 
-// Behind the first byte of a field, or of a pair of quotes.
+// How a field goes on, by how far it has got: at its first byte, without quotes, between quotes, and behind a quote there.
 fn begin(b: u8) -> Scan
     ensures { λ r. ⌜ r ≡ goOn Scan.Fresh b ⌝ }
 {
