@@ -16,11 +16,11 @@ use Rattle.layout.specs.declared.Line.{Line}
 use Rattle.layout.specs.declared.Way.{Way}
 use Rattle.layout.specs.Fields.{rowsOf, firstField}
 use Rattle.layout.specs.Ways.{endOf, recordBytes}
-use Rattle.rules.specs.declared.Sums.{Sums}
-use Rattle.records.specs.declared.Place.{Place}
-use Rattle.records.specs.declared.State.{State}
+use Rattle.near.specs.declared.Sums.{Sums}
+use Rattle.order.specs.declared.Place.{Place}
+use Rattle.tally.specs.declared.State.{State}
 use Rattle.records.specs.declared.Verdict.{Verdict}
-use Rattle.records.specs.Tally.{nextHeader, tally, start}
+use Rattle.tally.specs.Tally.{nextHeader, tally, start}
 use Rattle.records.specs.Run.{fieldsFrom, lineOf, closing, pieceOf, runFrom, finished, refused, lengthFits, checkedOf}
 use Rattle.records.proofs.Ways.{rawFrom, rawAt, columnsAt, columns-of, raw-next, raw-end, raw-whole}
 

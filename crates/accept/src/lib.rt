@@ -1,18 +1,15 @@
 // The public functions: every one takes any bytes, does its own checking, and grants or names the first refusal.
 use kinds::Mark;
-use kinds::groups;
 use layout::Answer;
 use layout::Checked;
 use layout::Fault;
 use layout::RecordNo;
 use layout::Refusal;
 use layout::Way;
-use records::State;
-use records::order;
 use records::quick;
-use records::tally;
+use records::step;
 use rules::field;
-use rules::near;
+use tally::State;
 ghost use Prim.Native.Nat.{_+_, _<_};
 ghost use mathlib.Core.Path.{_≡_};
 ghost use Rattle.records.specs.Run.{refused, finished, lengthFits, checkedOf};
@@ -112,7 +109,7 @@ pub fn check(way: Way, file: &[u8]) -> Checked
             number += 1;
             k += 1;
         }
-        if !order::closed(way, &file[at..at + wide]) {
+        if !step::closed(way, &file[at..at + wide]) {
             out = refused(Fault::LineEnd, sums.records + 1, 0);
             break 'records;
         }

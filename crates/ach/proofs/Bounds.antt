@@ -21,14 +21,14 @@ use Rattle.layout.specs.declared.Line.{Line}
 use Rattle.layout.specs.Fields.{rowsOf, firstField}
 use Rattle.layout.specs.Paper.{numberOf}
 use Rattle.kinds.specs.declared.Mark.{Mark}
-use Rattle.kinds.specs.declared.Code.{Code}
-use Rattle.kinds.specs.Codes.{codeOf, carries}
-use Rattle.rules.specs.declared.Sums.{Sums}
+use Rattle.codes.specs.declared.Code.{Code}
+use Rattle.codes.specs.Codes.{codeOf, carries}
+use Rattle.near.specs.declared.Sums.{Sums}
 use Rattle.rules.specs.Field.{fieldOf}
-use Rattle.records.specs.declared.State.{State}
+use Rattle.tally.specs.declared.State.{State}
 use Rattle.records.specs.declared.Verdict.{Verdict}
-use Rattle.records.specs.Order.{complete}
-use Rattle.records.specs.Tally.{start, tally}
+use Rattle.order.specs.Order.{complete}
+use Rattle.tally.specs.Tally.{start, tally}
 use Rattle.records.specs.Run.{found, fieldsFrom, lineOf, Piece, closing, stepped, onward, refused, accepted, runFrom, lengthFits, mostRecords, rawRecords, pieceOf, checkedOf}
 use Rattle.records.proofs.Ways.{rows-few}
 use Rattle.layout.specs.Ways.{recordBytes}
@@ -40,7 +40,7 @@ use Rattle.view.proofs.BridgeWalk.{carry}
 use Rattle.finding.proofs.Places.{in-order}
 use Rattle.layout.specs.declared.Way.{Way}
 use Rattle.layout.specs.declared.Checked.{Checked}
-use Rattle.comma.specs.Grammar.{linesIn, sixFields, sixTexts}
+use Rattle.cells.specs.Grammar.{linesIn, sixFields, sixTexts}
 use Rattle.comma.specs.Entries.{fieldRight, fieldFault, try, textsVerdict, lineVerdict}
 use Rattle.comma.specs.Import.{lineAnswer, linesAnswer, importTable, rowsFit, importAnswer, importOf}
 use Rattle.comma.proofs.EntryLaws.{texts-many, lines-count}
@@ -75,6 +75,7 @@ number-range Fault.Room = (lit≤ tt, lit≤ tt)
 number-range Fault.Shape = (lit≤ tt, lit≤ tt)
 number-range Fault.NoEntry = (lit≤ tt, lit≤ tt)
 number-range Fault.LineEnd = (lit≤ tt, lit≤ tt)
+number-range Fault.NoneLeft = (lit≤ tt, lit≤ tt)
 number-range Fault.Comma = (lit≤ tt, lit≤ tt)
 number-range Fault.Cents = (lit≤ tt, lit≤ tt)
 number-range Fault.Long = (lit≤ tt, lit≤ tt)

@@ -19,7 +19,7 @@ use Rattle.layout.specs.declared.Altered.{Altered}
 use Rattle.layout.specs.Fields.{part, entry, batchControl, fileControl}
 use Rattle.layout.specs.Paper.{paperOf}
 use Rattle.finding.specs.declared.AskedSpan.{AskedSpan}
-use Rattle.records.specs.Tally.{start}
+use Rattle.tally.specs.Tally.{start}
 use Rattle.records.specs.Run.{lengthFits, rawRecords, columnsIn, pieceOf, checkedOf}
 use Rattle.view.specs.View.{View, sumOver, debitOf, creditOf, amountOf, entriesOf, fileControlRecord, recordsOf, viewOf}
 use Rattle.view.specs.Table.{shaped, formed, tableOf, viewOfTable}

@@ -23,12 +23,13 @@ use Rattle.layout.specs.declared.Way.{Way}
 use Rattle.layout.specs.Fields.{rowsOf, firstField}
 use Rattle.kinds.specs.declared.Mark.{Mark}
 use Rattle.kinds.specs.Kinds.{need, isAccount, account, ownRule}
-use Rattle.rules.specs.declared.Sums.{Sums}
-use Rattle.rules.specs.Field.{traceBank, batchBank, traceNumber, traceFollows, traceRule, nearRule, kindRule, fieldOf}
-use Rattle.records.specs.declared.State.{State}
+use Rattle.near.specs.declared.Sums.{Sums}
+use Rattle.near.specs.Near.{traceBank, batchBank, traceNumber, traceFollows, traceRule, nearRule}
+use Rattle.rules.specs.Field.{kindRule, fieldOf}
+use Rattle.tally.specs.declared.State.{State}
 use Rattle.records.specs.declared.Verdict.{Verdict}
 use Rattle.records.specs.declared.Stepped.{Stepped}
-use Rattle.records.specs.Tally.{start, tally}
+use Rattle.tally.specs.Tally.{start, tally}
 use Rattle.records.specs.Run.{Piece, found, fieldsFrom, lineOf, stepped, closing, recordOf, refused, onward, finished, runFrom, lengthFits, rawRecords, pieceOf, checkedOf}
 use Rattle.ach.specs.Earlier.{Rule, fieldsBy, recordBy, runBy, checkedBy, traceInTurn, traceUnskipped, kindWith, nearUnskipped, unskipped, isUnlettered, accountUnlettered, ownUnlettered, unlettered}
 

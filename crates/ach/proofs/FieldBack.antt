@@ -13,11 +13,11 @@ use lib.ListN.{length, getD, take, drop, replicate, length-append, length-take, 
 use lib.Seq.{take-at, drop-append-add, getD-at}
 use Rattle.text.specs.Decimal.{pick, every, isDigit, digits, digitOf, valueFrom, value, render}
 use Rattle.text.proofs.DecimalLaws.{and-both, both-and, every-take, every-drop, value-append, value-from, value-lt, render-value}
-use Rattle.comma.specs.declared.Scan.{Scan}
-use Rattle.comma.specs.Grammar.{isQuotedData, sizeFrom, endsFrom, cellOf, innerOf, undoubled, textOf}
-use Rattle.comma.specs.Entries.{amountForm, centsIn, amountRight, filledTo}
-use Rattle.exporting.specs.Export.{inFront, trimmed, escaped, doubled, quoted, unpadded, amountText}
-use Rattle.exporting.proofs.FieldLaws.{quoted-size}
+use Rattle.cells.specs.declared.Scan.{Scan}
+use Rattle.cells.specs.Grammar.{isQuotedData, sizeFrom, endsFrom, cellOf, innerOf, undoubled, textOf, filledTo}
+use Rattle.comma.specs.Entries.{amountForm, centsIn, amountRight}
+use Rattle.quoting.specs.Quoting.{inFront, trimmed, escaped, doubled, quoted, unpadded, amountText}
+use Rattle.quoting.proofs.FieldLaws.{quoted-size}
 
 -- "bytes 0x20 to 0x7E"
 abbrev pub isPrintable : ℕ → Bool

@@ -14,12 +14,12 @@ use Rattle.layout.specs.declared.Refusal.{Refusal}
 use Rattle.layout.specs.declared.Row.{Row}
 use Rattle.layout.specs.Fields.{rowsOf, firstField}
 use Rattle.kinds.specs.declared.Mark.{Mark}
-use Rattle.rules.specs.declared.Sums.{Sums}
+use Rattle.near.specs.declared.Sums.{Sums}
 use Rattle.rules.specs.Field.{fieldOf}
-use Rattle.records.specs.declared.State.{State}
+use Rattle.tally.specs.declared.State.{State}
 use Rattle.records.specs.declared.Verdict.{Verdict}
-use Rattle.records.specs.Order.{complete}
-use Rattle.records.specs.Tally.{start, tally}
+use Rattle.order.specs.Order.{complete}
+use Rattle.tally.specs.Tally.{start, tally}
 use Rattle.records.specs.Run.{found, fieldsFrom, lineOf, Piece, closing, stepped, recordOf, refused, accepted, runFrom, lengthFits, rawRecords, pieceOf, checkedOf}
 use Rattle.view.specs.Keeps.{Right}
 use Rattle.view.proofs.Answers.{not-granted}

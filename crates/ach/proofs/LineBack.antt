@@ -17,12 +17,13 @@ use Rattle.layout.specs.declared.Answer.{Answer}
 use Rattle.layout.specs.declared.Fault.{Fault}
 use Rattle.records.specs.declared.Verdict.{Verdict}
 use Rattle.view.specs.Sized.{All}
-use Rattle.comma.specs.declared.Cell.{Cell}
-use Rattle.comma.specs.Grammar.{cellOf, textOf, stopFrom, textFrom, fieldsRight, textsFrom, lastStop, sizeBy, sixFields, sixTexts, lineSize, linesFrom, linesIn}
-use Rattle.comma.specs.Entries.{try, textsVerdict, lineVerdict, filledTo, allColumns, restOfRow, rowOfLine, entriesOfLines}
+use Rattle.cells.specs.declared.Cell.{Cell}
+use Rattle.cells.specs.Grammar.{cellOf, textOf, stopFrom, textFrom, fieldsRight, textsFrom, lastStop, sizeBy, sixFields, sixTexts, lineSize, linesFrom, linesIn, filledTo}
+use Rattle.comma.specs.Entries.{try, textsVerdict, lineVerdict, allColumns, restOfRow, rowOfLine, entriesOfLines}
 use Rattle.comma.specs.Import.{lineAnswer, linesAnswer}
-use Rattle.exporting.specs.Export.{trimmed, quoted, unpadded, amountText, lineFields, commaLine, lineOfRow}
-use Rattle.exporting.proofs.FieldLaws.{trimmed-take, trimmed-short}
+use Rattle.quoting.specs.Quoting.{trimmed, quoted, unpadded, amountText}
+use Rattle.exporting.specs.Export.{lineFields, commaLine, lineOfRow}
+use Rattle.quoting.proofs.FieldLaws.{trimmed-take, trimmed-short}
 use Rattle.ach.proofs.FieldBack.{isPrintable, cell-back, text-back, filled-back, unpadded-every, right-back, digits-back}
 
 -- ---- a field of the line that begins at a byte

@@ -20,7 +20,7 @@ use Rattle.view.specs.Outcome.{refusal, demand, andThen, made, room}
 use Rattle.view.proofs.Answers.{not-granted, then-granted, demand-granted}
 use Rattle.view.proofs.Tables.{view-of-table, view-of-formed}
 use Rattle.writing.specs.Judge.{writable}
-use Rattle.comma.specs.Grammar.{linesIn}
+use Rattle.cells.specs.Grammar.{linesIn}
 use Rattle.comma.specs.Entries.{entriesOfLines}
 use Rattle.comma.specs.Import.{linesAnswer, bankIn, importView, importTable, rowsFit, importAnswer, importOf}
 use Rattle.exporting.specs.Export.{exported, exportOf}

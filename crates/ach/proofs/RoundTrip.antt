@@ -6,7 +6,7 @@ use mathlib.Core.Path.{_≡_, refl, sym, ap, _∙_, subst}
 use mathlib.Core.Bool.{Bool, true, false, _&&_, not}
 use mathlib.Core.List.{List, [], _∷_, _++_, map, map-map, append-nil}
 use borrow.Author.Tests.{leb-true, eqb-true, le-leb}
-use lib.Dec.{leb, eqb, lit<, lit≤}
+use lib.Dec.{leb, eqb, lit≤}
 use lib.ListN.{length, getD, take, drop, length-append, length-drop, length-map, List·getD-map}
 use lib.Seq.{take-add, take-take, take-append-seam, drop-drop, drop-append-add, length-take-le}
 use Rattle.text.specs.Decimal.{pick, every, isDigit, digits, render}
@@ -18,8 +18,8 @@ use Rattle.layout.specs.declared.Fault.{Fault}
 use Rattle.layout.specs.declared.Way.{Way}
 use Rattle.layout.specs.Fields.{entry, part}
 use Rattle.kinds.specs.Kinds.{isText, isAccount}
-use Rattle.rules.specs.declared.Sums.{Sums}
-use Rattle.rules.specs.Field.{entryTrace, batchNumber}
+use Rattle.near.specs.declared.Sums.{Sums}
+use Rattle.near.specs.Near.{entryTrace, batchNumber}
 use Rattle.view.specs.View.{Entry, Batch, View, entryRecord, batchRecord, recordsIn, entriesOf}
 use Rattle.view.specs.Table.{countWide, fileWide, headWide, batchWide, entryWide, tableBytes, rowsIn, entryPart, viewOfTable, addendaOf, addendaDue}
 use Rattle.view.specs.Sized.{All, SizedEntry, SizedBatch, Sized}
@@ -27,15 +27,16 @@ use Rattle.view.specs.Keeps.{Right, seen, EntriesKeep, BatchesKeep}
 use Rattle.view.specs.Outcome.{andThen, made, room}
 use Rattle.view.proofs.Lists.{all-append}
 use Rattle.view.proofs.Answers.{not-granted, demand-granted, then-granted}
-use Rattle.view.proofs.Tables.{entriesIn, textsIn, entries-sized, rows-of-entries, entry-part, shaped-sized, table-of-view}
+use Rattle.view.proofs.Tables.{entriesIn, entries-sized, rows-of-entries, entry-part, shaped-sized, table-of-view}
 use Rattle.view.proofs.BridgeFields.{need-right}
 use Rattle.view.proofs.Bridge.{keeps-exactly}
-use Rattle.forming.proofs.ShapeLaws.{drop-take}
+use Rattle.text.proofs.SetLaws.{drop-take}
 use Rattle.writing.specs.Judge.{writable}
 use Rattle.writing.proofs.WriteLaws.{shape-right, file-right}
-use Rattle.comma.specs.Grammar.{linesIn}
+use Rattle.cells.specs.Grammar.{linesIn}
 use Rattle.comma.specs.Entries.{restOfRow, rowOfLine, entriesOfLines}
 use Rattle.comma.specs.Import.{linesAnswer, bankIn, importTable, mostLines, rowsFit, importAnswer, importOf}
+use Rattle.listing.proofs.TableLaws.{no-addenda, oneBatch, one-sized}
 use Rattle.exporting.specs.Export.{lineOfRow, exported, exportOf}
 use Rattle.ach.proofs.FieldBack.{isPrintable}
 use Rattle.ach.proofs.LineBack.{Plain, printable-by, digit-printable, digits-printable, row-back, linesOf, tailsOf, lines-back, lines-granted, fields-again}
@@ -160,25 +161,6 @@ entries-many : (bank : List ℕ) (k : ℕ) (rs : List (List ℕ)) → length (en
 unfolding entriesOfLines tailsOf
 entries-many bank k [] = refl
 entries-many bank k (r ∷ rs) = ap suc (entries-many bank (k + 1) rs)
-
-no-addenda : (bank : List ℕ) (k : ℕ) (ls : List (List ℕ)) → textsIn (entriesOfLines bank k ls) ≡ []
-unfolding entriesOfLines
-no-addenda bank k [] = refl
-no-addenda bank k (l ∷ ls) = no-addenda bank (k + 1) ls
-
-abbrev oneBatch : List ℕ → List ℕ → List Entry → View
-oneBatch filerow head es = record { row = filerow; batches = record { row = head; entries = es } ∷ [] }
-
-one-sized : (filerow head : List ℕ) (es : List Entry) → length filerow ≡ fileWide → length head ≡ headWide → All SizedEntry es → length es < 10 ^ countWide → textsIn es ≡ []
-    → Sized (oneBatch filerow head es)
-one-sized filerow head es f h a few none =
-    record {
-      long = f;
-      each = (record { long = h; each = a }, tt);
-      batches = lit< tt;
-      entries = rw append-nil few;
-      addenda = rw (append-nil, none) (lit< tt);
-    }
 
 -- two records 6, by their rows: the six fields are the same
 pub record SameSix (r r′ : List ℕ) : Type 0 where

@@ -18,12 +18,13 @@ use Rattle.layout.specs.declared.Way.{Way}
 use Rattle.layout.specs.Fields.{rowsOf, firstField}
 use Rattle.kinds.specs.declared.Mark.{Mark}
 use Rattle.kinds.specs.Kinds.{need, blank, unbroken, ownRule}
-use Rattle.rules.specs.declared.Sums.{Sums}
-use Rattle.rules.specs.Field.{traceBank, traceNumber, batchBank, nearRule, kindRule}
-use Rattle.records.specs.declared.State.{State}
+use Rattle.near.specs.declared.Sums.{Sums}
+use Rattle.near.specs.Near.{traceBank, traceNumber, batchBank, nearRule}
+use Rattle.rules.specs.Field.{kindRule}
+use Rattle.tally.specs.declared.State.{State}
 use Rattle.records.specs.declared.Verdict.{Verdict}
 use Rattle.records.specs.declared.Stepped.{Stepped}
-use Rattle.records.specs.Tally.{start, tally}
+use Rattle.tally.specs.Tally.{start, tally}
 use Rattle.records.specs.Run.{Piece, found, lineOf, stepped, closing, refused, onward, finished, lengthFits, rawRecords, pieceOf}
 
 -- ---- the check by a rule for fields, whichever it is: with `fieldOf` it is the check

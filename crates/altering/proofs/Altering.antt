@@ -15,10 +15,11 @@ use Rattle.text.proofs.DecimalLaws.{and-both, both-and, value-render-lt}
 use Rattle.layout.specs.declared.Answer.{Answer}
 use Rattle.layout.specs.declared.Fault.{Fault}
 use Rattle.layout.specs.declared.Refusal.{Refusal}
-use Rattle.kinds.specs.declared.Use.{Use}
-use Rattle.kinds.specs.declared.Code.{Code}
-use Rattle.kinds.specs.Codes.{codeOf, carries, useCarries}
-use Rattle.rules.specs.Field.{entryCode, entryAmount, totalLimit}
+use Rattle.codes.specs.declared.Use.{Use}
+use Rattle.codes.specs.declared.Code.{Code}
+use Rattle.codes.specs.Codes.{codeOf, carries, useCarries}
+use Rattle.near.specs.Near.{entryCode, entryAmount}
+use Rattle.rules.specs.Field.{totalLimit}
 use Rattle.records.specs.Run.{columnsIn, checkedOf}
 use Rattle.view.specs.View.{Entry, View, entriesOf, sumOver, debitOf, creditOf, amountOf, codeIn, batchControlRecord, fileOf, viewOf}
 use Rattle.view.specs.Sized.{Sized}
@@ -29,14 +30,14 @@ use Rattle.view.proofs.AmendFile.{file-amended-debit, file-amended-credit}
 use Rattle.view.proofs.Bridge.{accepted-view}
 use Rattle.view.proofs.Own.{own-entries}
 use Rattle.finding.specs.declared.find.Places.{Places}
-use Rattle.altering.specs.declared.side.Side.{Side}
+use Rattle.sides.specs.declared.Side.{Side}
 use Rattle.layout.specs.declared.Way.{Way}
 use Rattle.layout.specs.Ways.{recordBytes}
 use Rattle.finding.specs.There.{There, EntryAt, Found}
-use Rattle.altering.specs.Side.{debitSide, creditSide, batchTotal, sideAnswer, sidePut, sideOutcome, Ordered, Ready}
+use Rattle.sides.specs.Side.{debitSide, creditSide, batchTotal, sideAnswer, sidePut, sideOutcome, Ordered, Ready}
 use Rattle.finding.proofs.Places.{batch-part}
 use Rattle.finding.proofs.Accepted.{entry-text, found-entry, total-text, few-records}
-use Rattle.altering.proofs.Exchange.{Comes, comes-refused}
+use Rattle.sides.proofs.ExchangeLaws.{Comes, comes-refused}
 
 -- ---- the answer
 

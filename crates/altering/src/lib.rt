@@ -1,7 +1,6 @@
 // One amount altered in place.
+use codes::Code;
 use finding::find;
-use kinds::Code;
-use kinds::codes;
 use layout::Altered;
 use layout::Answer;
 use layout::EntryNo;
@@ -12,8 +11,6 @@ ghost use Rattle.view.specs.Outcome.{alterOf};
 ghost use Rattle.records.specs.Run.{checkedOf};
 ghost use Rattle.finding.specs.There.{There};
 
-mod side;
-
 // The amount of an entry that there is; debit and credit are the file's totals.
 fn alter_there(way: Way, file: &mut [u8], k: u64, amount: u64, debit: u64, credit: u64) -> Altered
     requires { ⌜ There way (now file) k × (debit ≡ checkedOf way (now file) .debit) × (credit ≡ checkedOf way (now file) .credit) ⌝ }
@@ -21,7 +18,7 @@ fn alter_there(way: Way, file: &mut [u8], k: u64, amount: u64, debit: u64, credi
 {
     let places = find::locate(way, file, k);
     let at = places.entry;
-    let said = side::entry_said(way, file, at);
+    let said = sides::entry_said(way, file, at);
     let code = said.code;
     let old = said.amount;
     if !codes::carries(code, amount) {
@@ -37,9 +34,11 @@ fn alter_there(way: Way, file: &mut [u8], k: u64, amount: u64, debit: u64, credi
             difference: 0,
         },
         Code::Credit(_) => {
-            side::exchange(way, file, places, side::credits(), credit, old, amount)
+            sides::exchange(way, file, places, sides::credits(), credit, old, amount)
         }
-        Code::Debit(_) => { side::exchange(way, file, places, side::debits(), debit, old, amount) }
+        Code::Debit(_) => {
+            sides::exchange(way, file, places, sides::debits(), debit, old, amount)
+        }
     }
 }
 

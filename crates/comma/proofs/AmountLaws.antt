@@ -11,7 +11,7 @@ use lib.Seq.{drop-cons, take-all}
 use borrow.Author.Tests.{eqb-true, eqb-false, eq-eqb, ne-eqb, leb-true, leb-false, le-leb, lt-leb, not-true}
 use Rattle.text.specs.Decimal.{pick, every, isDigit, digits, digitOf, valueFrom, value}
 use Rattle.text.proofs.DecimalLaws.{and-both, both-and, every-cut, digit-range, digitOf-lt, value-from, value-next, value-end, value-lt}
-use Rattle.comma.specs.Grammar.{undoubled}
+use Rattle.cells.specs.Grammar.{undoubled}
 use Rattle.comma.specs.Entries.{amountForm, centsIn, amountRight}
 
 -- ---- dollars

@@ -17,10 +17,10 @@ use Rattle.text.proofs.DecimalLaws.{and-both, length-render}
 use Rattle.text.proofs.SetLaws.{sets-append}
 use Rattle.layout.specs.declared.Fault.{Fault}
 use Rattle.records.specs.declared.Verdict.{Verdict}
-use Rattle.comma.specs.Grammar.{cellOf, innerOf, undoubled, textOf, stopFrom, textFrom, breakAt, fieldsRight, textsFrom, lastStop, sizeBy, sixFields, sixTexts, lineSize, linesFrom, linesIn}
-use Rattle.comma.specs.Entries.{amountRight, centsIn, filledTo, fieldWide, fieldRight, fieldFault, try, textsVerdict, lineVerdict, columnsOf, allColumns, columnAt, restOfRow, rowOfLine, emptyRow, entriesOfLines}
-use Rattle.comma.specs.declared.Cell.{Cell}
-use Rattle.comma.proofs.CellLaws.{length-filled, right-more, stop-more, right-last, stop-last}
+use Rattle.cells.specs.Grammar.{cellOf, innerOf, undoubled, textOf, stopFrom, textFrom, breakAt, fieldsRight, textsFrom, lastStop, sizeBy, sixFields, sixTexts, lineSize, linesFrom, linesIn, filledTo}
+use Rattle.comma.specs.Entries.{amountRight, centsIn, fieldWide, fieldRight, fieldFault, try, textsVerdict, lineVerdict, columnsOf, allColumns, columnAt, restOfRow, rowOfLine, emptyRow, entriesOfLines}
+use Rattle.cells.specs.declared.Cell.{Cell}
+use Rattle.cells.proofs.CellLaws.{length-filled, right-more, stop-more, right-last, stop-last}
 use Rattle.comma.proofs.AmountLaws.{amount-plain, amount-same}
 
 -- ---- the texts of the fields

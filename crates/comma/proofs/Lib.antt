@@ -1,3 +1,2 @@
-pub mod CellLaws
 pub mod AmountLaws
 pub mod EntryLaws

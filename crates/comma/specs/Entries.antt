@@ -11,7 +11,7 @@ use Rattle.layout.specs.declared.Fault.{Fault}
 use Rattle.layout.specs.Fields.{entry}
 use Rattle.records.specs.declared.Verdict.{Verdict}
 use Rattle.view.specs.View.{Entry, wide, written, blanks}
-use Rattle.comma.specs.Grammar.{sixFields, sixTexts}
+use Rattle.cells.specs.Grammar.{filledTo, sixFields, sixTexts}
 
 -- "the amount is one or more digits, a point and two digits"
 abbrev pub amountForm : List ℕ → Bool
@@ -52,10 +52,6 @@ textsVerdict k (p ∷ ps) = try (fieldRight k p) (fieldFault k) k (textsVerdict 
 -- "29 not six fields in the RFC's grammar (field 0), then field by field"
 abbrev pub lineVerdict : List ℕ → Verdict
 lineVerdict xs = try (sixFields xs) Fault.Comma 0 (textsVerdict 1 (sixTexts xs))
-
--- "all fields but the amount are filled with blanks on the right"
-abbrev pub filledTo : ℕ → List ℕ → List ℕ
-filledTo w p = p ++ replicate (w - length p) 32
 
 abbrev pub columnsOf : ℕ → List ℕ → List ℕ
 columnsOf k p = pick (eqb k 4) (render (fieldWide k) (centsIn p)) (filledTo (fieldWide k) p)

@@ -13,7 +13,7 @@ use Rattle.records.specs.Run.{checkedOf}
 use Rattle.view.specs.View.{View}
 use Rattle.view.specs.Table.{fileWide, headWide, batchWide, tableBytes, formed}
 use Rattle.view.specs.Outcome.{Outcome, refusal, demand, andThen, made, room}
-use Rattle.comma.specs.Grammar.{linesIn}
+use Rattle.cells.specs.Grammar.{linesIn}
 use Rattle.comma.specs.Entries.{lineVerdict, entriesOfLines}
 
 -- "for the first faulty line, whose number stands for the record": k is the number of the first of these lines

@@ -2,7 +2,6 @@
 use crate::Amount;
 use crate::Placed;
 use crate::Tried;
-use crate::cells;
 use layout::Fault;
 use records::Verdict;
 ghost use Prim.Native.Nat.{_+_, _-_, _*_, _≤_, _<_};
@@ -12,7 +11,7 @@ ghost use lib.ListN.{length, take, drop};
 ghost use lib.Seq.{sets};
 ghost use Rattle.text.specs.Decimal.{digitOf, value};
 ghost use Rattle.records.specs.declared.Verdict.{Verdict};
-ghost use Rattle.comma.specs.Grammar.{undoubled, sixFields, sixTexts, lineSize};
+ghost use Rattle.cells.specs.Grammar.{undoubled, sixFields, sixTexts, lineSize};
 ghost use Rattle.comma.specs.Entries.{amountRight, centsIn, fieldWide, fieldRight, fieldFault, textsVerdict, lineVerdict, columnsOf, columnAt, emptyRow, rowOfLine};
 
 // The dollars that digits write; above 99,999,999 any number that is too large.

@@ -1,24 +1,7 @@
 // Lists of clients as comma lines: RFC 4180's fields and lines, and the entry that a line becomes.
 use records::Verdict;
 
-mod cells;
 pub mod entries;
-
-// How far the field at hand has got: nothing of it yet, inside a field without quotes, between quotes, behind a quote that closes or
-// is the first of two, or it cannot go on.
-pub enum Scan {
-    Fresh,
-    Plain,
-    Quoted,
-    Quote,
-    Stuck,
-}
-
-// The field at the front of some bytes: how many they are, and whether it may end there.
-pub struct Cell {
-    pub size: usize,
-    pub whole: bool,
-}
 
 // What trying a line gives: its first fault, and where there is none the bytes that it has.
 pub struct Tried {

@@ -3,7 +3,8 @@
 use Prim.Native.Nat.{ℕ}
 use mathlib.Core.Path.{_≡_, refl}
 use mathlib.Core.List.{List, [], _∷_}
-use Rattle.exporting.specs.Export.{trimmed, doubled, unpadded, commaLine, lineOfRow}
+use Rattle.quoting.specs.Quoting.{trimmed, doubled, unpadded}
+use Rattle.exporting.specs.Export.{commaLine, lineOfRow}
 
 -- "22","061000104","ACCOUNT","2000.00","ID","NAME"
 abbrev plainRow : List ℕ

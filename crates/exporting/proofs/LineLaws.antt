@@ -11,8 +11,9 @@ use Rattle.text.specs.Rows.{joined}
 use Rattle.forming.specs.declared.Sections.{Sections}
 use Rattle.forming.specs.Sections.{Counted}
 use Rattle.forming.proofs.ShapeLaws.{entry-rows-at, rows-first, rows-none}
-use Rattle.reading.specs.Puts.{Puts}
-use Rattle.exporting.specs.Export.{trimmed, quoted, amountText, commaLine, lineOfRow, linesAt, exported}
+use Rattle.putting.specs.Puts.{Puts}
+use Rattle.quoting.specs.Quoting.{trimmed, quoted, amountText}
+use Rattle.exporting.specs.Export.{commaLine, lineOfRow, linesAt, exported}
 
 -- ---- a line
 

@@ -1,47 +1,15 @@
 -- Exporting: "The export of a table that document 01 would write puts every field in quotes, drops trailing blanks and the amount's
 -- leading zeros down to one digit before the point, and ends each line with CR LF".
 use Prim.Native.Nat.{ℕ}
-use mathlib.Core.Bool.{_&&_}
 use mathlib.Core.List.{List, [], _∷_, _++_, map}
-use lib.Dec.{ltb, eqb}
-use lib.ListN.{length, take, drop}
-use Rattle.text.specs.Decimal.{pick}
+use lib.ListN.{drop}
 use Rattle.text.specs.Rows.{columns, joined, rows}
 use Rattle.layout.specs.declared.Made.{Made}
 use Rattle.layout.specs.Fields.{entry, part}
 use Rattle.view.specs.Table.{entryWide, entryPart, rowsIn}
 use Rattle.view.specs.Outcome.{Outcome, andThen, made, room}
 use Rattle.writing.specs.Judge.{writable}
-
--- "drops trailing blanks": a byte before what is left of those behind it, where nothing is left a blank goes too
-abbrev pub inFront : ℕ → List ℕ → List ℕ
-inFront b [] = pick (eqb b 32) [] (b ∷ [])
-inFront b (c ∷ cs) = b ∷ c ∷ cs
-
-unfoldable pub trimmed : List ℕ → List ℕ
-trimmed [] = []
-trimmed (b ∷ bs) = inFront b (trimmed bs)
-
--- "a quote inside a field is doubled"
-abbrev pub escaped : ℕ → List ℕ
-escaped b = pick (eqb b 34) (34 ∷ 34 ∷ []) (b ∷ [])
-
-unfoldable pub doubled : List ℕ → List ℕ
-doubled [] = []
-doubled (b ∷ bs) = escaped b ++ doubled bs
-
--- "escaped = DQUOTE *(..) DQUOTE"
-abbrev pub quoted : List ℕ → List ℕ
-quoted p = 34 ∷ (doubled p ++ (34 ∷ []))
-
--- "drops .. the amount's leading zeros down to one digit before the point"
-unfoldable pub unpadded : List ℕ → List ℕ
-unpadded [] = []
-unpadded (b ∷ bs) = pick (eqb b 48 && ltb 0 (length bs)) (unpadded bs) (b ∷ bs)
-
--- an amount of ten digits: eight before the point, two behind it
-abbrev pub amountText : List ℕ → List ℕ
-amountText p = unpadded (take 8 p) ++ (46 ∷ drop 8 p)
+use Rattle.quoting.specs.Quoting.{trimmed, quoted, amountText}
 
 -- "A line holds code, nine-digit routing number, account, amount, identification and name": of the record 6 r
 abbrev pub lineFields : List ℕ → List (List ℕ)

@@ -9,22 +9,20 @@ use layout::Refusal;
 ghost use Prim.Native.Nat.{_+_, _*_, _≤_, _<_};
 ghost use mathlib.Core.Path.{_≡_};
 ghost use lib.ListN.{length};
-ghost use Rattle.reading.specs.Puts.{Puts, Room};
+ghost use Rattle.putting.specs.Puts.{Puts, Room};
 ghost use Rattle.exporting.specs.Export.{lineOfRow, linesAt, exportOf};
-
-mod field;
 
 // How many bytes the line of an entry row takes.
 fn line_size(row: &[u8]) -> usize
     requires { ⌜ length (now row) ≡ 93 ⌝ }
     ensures { λ r. ⌜ (r ≡ length (lineOfRow (now (row .entry)))) × (r ≤ 200) ⌝ }
 {
-    let front = field::text_size(&row[0..2])
-        + field::text_size(&row[2..11])
-        + field::text_size(&row[11..28]);
-    let back = field::amount_size(&row[28..38])
-        + field::text_size(&row[38..53])
-        + field::text_size(&row[53..75]);
+    let front = quoting::text_size(&row[0..2])
+        + quoting::text_size(&row[2..11])
+        + quoting::text_size(&row[11..28]);
+    let back = quoting::amount_size(&row[28..38])
+        + quoting::text_size(&row[38..53])
+        + quoting::text_size(&row[53..75]);
     front + back + 7
 }
 
@@ -33,13 +31,13 @@ fn put_line(row: &[u8], lines: &mut [u8], to: usize) -> usize
     requires { ⌜ (length (now row) ≡ 93) × Room (lineOfRow (now row)) (now lines) to ⌝ }
     ensures { λ r. ⌜ Puts (lineOfRow (now (row .entry))) (now (lines .entry)) (now (lines .exit)) to r ⌝ }
 {
-    let routing = field::put_text(&row[0..2], 44, lines, to);
-    let account = field::put_text(&row[2..11], 44, lines, routing);
-    let amount = field::put_text(&row[11..28], 44, lines, account);
-    let ident = field::put_amount(&row[28..38], 44, lines, amount);
-    let name = field::put_text(&row[38..53], 44, lines, ident);
-    let feed = field::put_text(&row[53..75], 13, lines, name);
-    field::put(10, lines, feed)
+    let routing = quoting::put_text(&row[0..2], 44, lines, to);
+    let account = quoting::put_text(&row[2..11], 44, lines, routing);
+    let amount = quoting::put_text(&row[11..28], 44, lines, account);
+    let ident = quoting::put_amount(&row[28..38], 44, lines, amount);
+    let name = quoting::put_text(&row[38..53], 44, lines, ident);
+    let feed = quoting::put_text(&row[53..75], 13, lines, name);
+    quoting::put(10, lines, feed)
 }
 
 // How many bytes the lines of the entry rows take.

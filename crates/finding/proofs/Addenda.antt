@@ -16,7 +16,7 @@ use Rattle.text.specs.Widths.{AllLong}
 use Rattle.layout.specs.declared.Answer.{Answer}
 use Rattle.layout.specs.declared.Refusal.{Refusal}
 use Rattle.layout.specs.declared.Fault.{Fault}
-use Rattle.records.specs.Order.{takesAddendum}
+use Rattle.order.specs.Order.{takesAddendum}
 use Rattle.records.specs.Run.{columnsIn, checkedOf}
 use Rattle.view.specs.View.{Entry, View, entryRecord, addendumRecord, entriesOf, recordsOf, viewOf}
 use Rattle.view.specs.Sized.{SizedEntry}

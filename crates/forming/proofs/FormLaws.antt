@@ -11,11 +11,11 @@ use Rattle.text.specs.Decimal.{render}
 use Rattle.text.specs.Rows.{joined}
 use Rattle.text.specs.Widths.{Wide, total}
 use Rattle.text.proofs.DecimalLaws.{length-render}
-use Rattle.rules.specs.declared.Sums.{Sums}
+use Rattle.near.specs.declared.Sums.{Sums}
 use Rattle.rules.specs.Field.{blocks, hashOf}
 use Rattle.view.proofs.Lists.{set-field, wide-set, puts}
 use Rattle.forming.specs.Forms.{fileFrom, batchFrom, entryFrom, addendumFrom, batchControlFrom, fileControlFrom}
-use Rattle.forming.proofs.ShapeLaws.{drop-take}
+use Rattle.text.proofs.SetLaws.{drop-take}
 
 -- a text for each of these fields, by their numbers from 0
 abbrev replaced : List (List ℕ) → List (ℕ × List ℕ) → List (List ℕ)

@@ -14,7 +14,8 @@ use lib.Seq.{drop-drop, take-nil, getD-take, getD-drop}
 use Rattle.text.specs.Decimal.{digits, value}
 use Rattle.text.specs.Rows.{rows}
 use Rattle.text.proofs.RowLaws.{getD-columns}
-use Rattle.records.specs.Order.{takesAddendum}
+use Rattle.text.proofs.SetLaws.{drop-take}
+use Rattle.order.specs.Order.{takesAddendum}
 use Rattle.view.specs.View.{sumOver}
 use Rattle.view.specs.Table.{batchPart, entryPart, addendumPart, countOf, rowsIn, everyRow, entriesDue, addendaDue, shaped}
 use Rattle.forming.specs.declared.Sections.{Sections}
@@ -70,11 +71,6 @@ pub rows-none : (w n at : ℕ) (t : List ℕ) → n ≤ 0 → rows w n (drop at 
 unfolding rows
 rows-none w zero at t h = refl
 rows-none w (suc n) at t h = absurd (omega arith)
-
-pub drop-take : {A : Type 0} (m n : ℕ) (l : List A) → drop m (take (m + n) l) ≡ take n (drop m l)
-drop-take zero n l = rw zero-add
-drop-take (suc m) n [] = rw (suc-add, take-nil n)
-drop-take (suc m) n (x ∷ l) = rw suc-add (drop-take m n l)
 
 -- the number of entries at the end of a batch's row
 pub number-at : (t : List ℕ) (at : ℕ) → drop 89 (take 95 (drop at t)) ≡ take 6 (drop (at + 89) t)

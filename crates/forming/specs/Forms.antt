@@ -4,7 +4,7 @@ use mathlib.Core.List.{List, [], _∷_}
 use lib.ListN.{take}
 use Rattle.text.specs.Rows.{joined}
 use Rattle.layout.specs.Fields.{part, batchHeader, batchControl, fileControl}
-use Rattle.rules.specs.declared.Sums.{Sums}
+use Rattle.near.specs.declared.Sums.{Sums}
 use Rattle.rules.specs.Field.{blocks, hashOf}
 use Rattle.view.specs.View.{written, blanks, fileRecord, batchRecord, entryRecord, addendumRecord}
 use Rattle.view.specs.Table.{headWide}

@@ -1,11 +1,11 @@
 // Forming records: each of the 94 bytes comes from a row of the table, from the sums, or is the same in every file.
-use rules::Sums;
+use near::Sums;
 ghost use Prim.Native.Nat.{_+_, _-_, _≤_};
 ghost use mathlib.Core.Path.{_≡_};
 ghost use lib.ListN.{length};
 ghost use lib.Seq.{sets};
 ghost use Rattle.text.specs.Decimal.{render};
-ghost use Rattle.rules.specs.Small.{Small};
+ghost use Rattle.near.specs.Small.{Small};
 ghost use Rattle.view.specs.View.{fillerRecord};
 ghost use Rattle.forming.specs.Forms.{fileFrom, batchFrom, entryFrom, addendumFrom, batchControlFrom, fileControlFrom};
 

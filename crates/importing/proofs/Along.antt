@@ -12,18 +12,18 @@ use lib.Seq.{drop-cons, drop-drop, take-take, take-at}
 use borrow.Author.Tests.{ltb-true, ltb-false, lt-ltb, le-ltb}
 use Rattle.text.specs.Decimal.{pick, render}
 use Rattle.layout.specs.declared.Answer.{Answer}
-use Rattle.rules.specs.declared.Sums.{Sums}
-use Rattle.records.specs.declared.Place.{Place}
-use Rattle.records.specs.declared.State.{State}
+use Rattle.near.specs.declared.Sums.{Sums}
+use Rattle.order.specs.declared.Place.{Place}
+use Rattle.tally.specs.declared.State.{State}
 use Rattle.records.specs.declared.Verdict.{Verdict}
 use Rattle.view.specs.View.{sumOver, batchRecord}
 use Rattle.view.specs.Table.{entriesDue}
 use Rattle.forming.specs.Sections.{countAt}
 use Rattle.forming.specs.Forms.{batchFrom, fileFrom, entryFrom}
-use Rattle.writing.specs.declared.Cursor.{Cursor}
-use Rattle.writing.specs.Forming.{Inside, owed, batchRows, entriesAhead, batchAt, entryAt, formAt, pastEntry, pastOf}
+use Rattle.walking.specs.declared.Cursor.{Cursor}
+use Rattle.walking.specs.Forming.{Inside, owed, batchRows, entriesAhead, batchAt, entryAt, formAt, pastEntry, pastOf}
 use Rattle.view.proofs.Lists.{by-lt}
-use Rattle.comma.specs.Grammar.{linesIn, lineSize}
+use Rattle.cells.specs.Grammar.{linesIn, lineSize}
 use Rattle.comma.specs.Entries.{lineVerdict, rowOfLine}
 use Rattle.comma.specs.Import.{lineAnswer, linesAnswer}
 use Rattle.comma.proofs.EntryLaws.{lines-next, lines-none, line-inside, line-passed}

@@ -15,12 +15,12 @@ use Rattle.layout.specs.declared.Answer.{Answer}
 use Rattle.layout.specs.declared.Fault.{Fault}
 use Rattle.layout.specs.declared.Refusal.{Refusal}
 use Rattle.layout.specs.declared.Way.{Way}
-use Rattle.rules.specs.declared.Sums.{Sums}
-use Rattle.records.specs.declared.Place.{Place}
-use Rattle.records.specs.declared.State.{State}
+use Rattle.near.specs.declared.Sums.{Sums}
+use Rattle.order.specs.declared.Place.{Place}
+use Rattle.tally.specs.declared.State.{State}
 use Rattle.records.specs.declared.Verdict.{Verdict}
-use Rattle.records.specs.Order.{complete}
-use Rattle.records.specs.Tally.{start, tally}
+use Rattle.order.specs.Order.{complete}
+use Rattle.tally.specs.Tally.{start, tally}
 use Rattle.records.specs.Run.{lineOf, bare, recordOf, refused, checkedOf}
 use Rattle.view.specs.View.{recordsOf, fillersAfter}
 use Rattle.view.specs.Table.{countOf, batchPart, entryPart, addendumPart, shaped, viewOfTable, formed}
@@ -32,11 +32,11 @@ use Rattle.view.proofs.Answers.{then-granted, demand-granted}
 use Rattle.view.proofs.Ways.{bareRun}
 use Rattle.forming.specs.Sections.{countAt}
 use Rattle.forming.proofs.ShapeLaws.{number-at}
-use Rattle.writing.specs.declared.Cursor.{Cursor}
-use Rattle.writing.specs.Forming.{Inside, formOf, pastOf, firstOf}
-use Rattle.writing.proofs.WalkLaws.{todo}
-use Rattle.writing.proofs.PassLaws.{right, records-count, Walking, Begun, begun, Step, step-by, form-long, some-left, run-refused}
-use Rattle.comma.specs.Grammar.{linesIn, lineSize}
+use Rattle.walking.specs.declared.Cursor.{Cursor}
+use Rattle.walking.specs.Forming.{Inside, formOf, pastOf, firstOf}
+use Rattle.walking.proofs.WalkLaws.{todo}
+use Rattle.passing.proofs.PassLaws.{right, records-count, Walking, Begun, begun, Step, step-by, form-long, some-left, run-refused}
+use Rattle.cells.specs.Grammar.{linesIn, lineSize}
 use Rattle.comma.specs.Entries.{rowOfLine}
 use Rattle.comma.specs.Import.{linesAnswer, bankIn, importView, importTable, rowsFit, importAnswer}
 use Rattle.listing.proofs.TableLaws.{file-at, batch-at, table-long, entry-at, import-sized, counts}

@@ -4,13 +4,13 @@ use mathlib.Core.Bool.{Bool, true, false}
 use mathlib.Core.List.{List}
 use lib.Dec.{ltb}
 use Rattle.text.specs.Decimal.{pick}
-use Rattle.rules.specs.declared.Sums.{Sums}
-use Rattle.records.specs.declared.Place.{Place}
-use Rattle.records.specs.declared.State.{State}
+use Rattle.near.specs.declared.Sums.{Sums}
+use Rattle.order.specs.declared.Place.{Place}
+use Rattle.tally.specs.declared.State.{State}
 use Rattle.view.specs.View.{fillerRecord}
 use Rattle.forming.specs.Forms.{fileFrom, batchFrom, entryFrom, batchControlFrom, fileControlFrom}
-use Rattle.writing.specs.declared.Cursor.{Cursor}
-use Rattle.writing.specs.Forming.{pastEntry}
+use Rattle.walking.specs.declared.Cursor.{Cursor}
+use Rattle.walking.specs.Forming.{pastEntry}
 
 -- whether the next record is an entry, of which this many are left in the batch
 abbrev pub entryDue : Place → ℕ → Bool

@@ -1,12 +1,8 @@
 // The check of the file that the table will form.
 use crate::walk;
-use kinds::groups;
 use layout::Answer;
 use records::Verdict;
-use records::order;
 use records::step;
-use records::tally;
-use writing::pass;
 ghost use Prim.Native.Nat.{_≤_};
 ghost use mathlib.Core.Path.{_≡_};
 ghost use lib.ListN.{length};
@@ -14,7 +10,7 @@ ghost use Rattle.layout.specs.declared.Answer.{Answer};
 ghost use Rattle.layout.specs.declared.Way.{Way};
 ghost use Rattle.records.specs.Run.{checkedOf};
 ghost use Rattle.view.specs.Table.{formed};
-ghost use Rattle.comma.specs.Grammar.{linesIn};
+ghost use Rattle.cells.specs.Grammar.{linesIn};
 ghost use Rattle.comma.specs.Import.{linesAnswer, importTable};
 
 // What the check of the formed file answers, in either way. Nothing is written.
@@ -40,7 +36,7 @@ pub(crate) fn judged(filerow: &[u8], batchrow: &[u8], lines: &[u8], count: usize
         let tried = step::check(&groups, st, &rec);
         let verdict = tried.verdict;
         if let Verdict::Failed(fault, k) = verdict {
-            return pass::refused(fault, sums.records + 1, k);
+            return passing::refused(fault, sums.records + 1, k);
         }
         c = walk::past(count, c, place);
         let state = tried.state;

@@ -4,14 +4,13 @@ use layout::Answer;
 use layout::Fault;
 use layout::Made;
 use listing::Listing;
-use writing::pass;
 ghost use Prim.Native.Nat.{_≤_};
 ghost use mathlib.Core.Path.{_≡_};
 ghost use mathlib.Core.Bool.{_&&_};
 ghost use lib.Dec.{eqb, leb};
 ghost use lib.ListN.{length};
 ghost use Rattle.layout.specs.declared.Answer.{Answer};
-ghost use Rattle.comma.specs.Grammar.{linesIn};
+ghost use Rattle.cells.specs.Grammar.{linesIn};
 ghost use Rattle.comma.specs.Import.{importAnswer, importOf};
 
 mod judge;
@@ -42,11 +41,11 @@ fn judge_list(filerow: &[u8], batchrow: &[u8], lines: &[u8]) -> Listing
     }
     let count = list.count;
     if !rows_fit(filerow, batchrow, count) {
-        return unlisted(pass::refused(Fault::Shape, 0, 0));
+        return unlisted(passing::refused(Fault::Shape, 0, 0));
     }
     // The file would have more than a million records.
     if 999_996 < count {
-        return unlisted(pass::refused(Fault::Length, 0, 0));
+        return unlisted(passing::refused(Fault::Length, 0, 0));
     }
     Listing {
         answer: judge::judged(filerow, batchrow, lines, count as usize),
@@ -77,7 +76,7 @@ pub fn import(filerow: &[u8], batchrow: &[u8], lines: &[u8], table: &mut [u8]) -
     let size = 204 + 93 * count;
     if (table.len() as u64) < size {
         return Made {
-            answer: pass::refused(Fault::Room, 0, 0),
+            answer: passing::refused(Fault::Room, 0, 0),
             length: 0,
         };
     }

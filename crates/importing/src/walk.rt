@@ -2,20 +2,20 @@
 use crate::Next;
 use comma::entries;
 use forming::forms;
-use records::Place;
-use records::State;
-use rules::Sums;
-use writing::Cursor;
+use near::Sums;
+use order::Place;
+use tally::State;
+use walking::Cursor;
 ghost use Prim.Native.Nat.{_+_, _≤_, _<_};
 ghost use mathlib.Core.Path.{_≡_};
 ghost use mathlib.Core.Bool.{true, false};
 ghost use lib.ListN.{length, drop};
-ghost use Rattle.rules.specs.Small.{Small};
+ghost use Rattle.near.specs.Small.{Small};
 ghost use Rattle.records.specs.declared.Verdict.{Verdict};
-ghost use Rattle.records.specs.Fair.{Fair};
-ghost use Rattle.comma.specs.Grammar.{lineSize};
+ghost use Rattle.tally.specs.Fair.{Fair};
+ghost use Rattle.cells.specs.Grammar.{lineSize};
 ghost use Rattle.comma.specs.Entries.{lineVerdict, rowOfLine};
-ghost use Rattle.writing.specs.Forming.{pastEntry};
+ghost use Rattle.walking.specs.Forming.{pastEntry};
 ghost use Rattle.importing.specs.Walk.{entryDue, headBy, itemBy, formBy, pastHead, pastBy, firstBy};
 
 // Whether the next record is an entry.

@@ -6,14 +6,10 @@ use native.Mathlib.Omega.{arith}
 use mathlib.Core.Path.{_≡_, refl}
 use mathlib.Core.Bool.{Bool, true, false, _&&_, _||_, not}
 use mathlib.Core.List.{List, [], _∷_}
-use mathlib.Core.Logic.{_⊎_, inl, inr}
-use borrow.Author.Tests.{ne-eqb}
 use lib.Dec.{eqb}
 use lib.ListN.{length, getD, drop}
 use lib.Seq.{drop-cons}
 use Rattle.text.specs.Decimal.{pick, every}
-use Rattle.kinds.specs.declared.Code.{Code}
-use Rattle.kinds.specs.Codes.{codeOf}
 use Rattle.kinds.specs.Kinds.{blank, unbroken}
 
 -- no blank stands just before another byte, in what follows a byte b
@@ -77,18 +73,3 @@ pairs-end p i all h e = go all (rw (lib.ListN.drop-of-length-le p h) at e)
 pub or-not-false : (b : Bool) → (b || not false) ≡ true
 or-not-false true = refl
 or-not-false false = refl
-
--- a code that is none of the eight
-pub unknown : (n : ℕ) → ((n ≡ 22) ⊎ (n ≡ 32) → ⊥) → ((n ≡ 23) ⊎ (n ≡ 33) → ⊥) → ((n ≡ 27) ⊎ (n ≡ 37) → ⊥) → ((n ≡ 28) ⊎ (n ≡ 38) → ⊥) → Code.Unknown ≡ codeOf n
-unknown n a b c d =
-    rw (
-      ne-eqb n 22 (λ e. a (inl e)),
-      ne-eqb n 32 (λ e. a (inr e)),
-      ne-eqb n 23 (λ e. b (inl e)),
-      ne-eqb n 33 (λ e. b (inr e)),
-      ne-eqb n 27 (λ e. c (inl e)),
-      ne-eqb n 37 (λ e. c (inr e)),
-      ne-eqb n 28 (λ e. d (inl e)),
-      ne-eqb n 38 (λ e. d (inr e)),
-    )
-    refl

@@ -4,12 +4,13 @@ use mathlib.Core.Bool.{Bool, true, false, _&&_, _||_, not}
 use mathlib.Core.List.{List, [], _∷_}
 use lib.Dec.{leb, eqb}
 use lib.ListN.{getD}
-use Rattle.text.specs.Decimal.{pick, every, isDigit, digits, digitOf, value}
+use Rattle.text.specs.Decimal.{pick, every, isDigit, digits, value}
 use Rattle.text.specs.Rows.{columns}
 use Rattle.text.specs.Same.{sameBytes}
 use Rattle.layout.specs.declared.Fault.{Fault}
 use Rattle.layout.specs.declared.Own.{Own}
 use Rattle.kinds.specs.declared.Mark.{Mark}
+use Rattle.groups.specs.Groups.{checkDigit}
 
 -- "Several faults in one field: the lower number is given": a test, its number if it fails, and the tests after it
 abbrev pub need : Bool → Fault → Mark → Mark
@@ -78,18 +79,6 @@ abbrev pub time : List ℕ → Mark
 time p =
     pick (blank p) Mark.Right
     (need (digits p) Fault.Digits (need (realTime (value p / 100) (value p % 100)) Fault.Date Mark.Right))
-
--- "Check digit (ABA): weights 3, 7, 1, 3, 7, 1, 3, 7 on the eight digits; the digit that brings the sum to a multiple of ten."
-abbrev pub weights : List ℕ
-weights = 3 ∷ 7 ∷ 1 ∷ 3 ∷ 7 ∷ 1 ∷ 3 ∷ 7 ∷ []
-
-unfoldable pub weighed : List ℕ → List ℕ → ℕ
-weighed [] bs = 0
-weighed (w ∷ ws) [] = 0
-weighed (w ∷ ws) (b ∷ bs) = w * digitOf b + weighed ws bs
-
-abbrev pub checkDigit : List ℕ → ℕ
-checkDigit bs = (10 - weighed weights bs % 10) % 10
 
 -- record 1, field 3: "a blank (5), nine digits (6), check digit (12)"
 abbrev pub destination : List ℕ → Mark

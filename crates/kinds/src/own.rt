@@ -1,6 +1,5 @@
 // The rules of single fields that look at nothing else.
 use crate::Mark;
-use crate::groups;
 use crate::texts;
 use layout::Fault;
 use layout::Own;
@@ -10,7 +9,7 @@ ghost use mathlib.Core.Bool.{true};
 ghost use lib.ListN.{length};
 ghost use Rattle.text.specs.Decimal.{every};
 ghost use Rattle.layout.specs.Fits.{ownFits};
-ghost use Rattle.kinds.specs.Groups.{groupSums};
+ghost use Rattle.groups.specs.Groups.{groupSums};
 ghost use Rattle.kinds.specs.Kinds.{realTime, time, destination, origin, modifier, class, entryClass, bank, isAccount, unbroken, account, flag, ownRule};
 
 fn real_time(hour: u64, minute: u64) -> bool

@@ -57,6 +57,8 @@ numberOf Fault.Shape = 24
 numberOf Fault.NoEntry = 25
 -- a record not followed by CR LF
 numberOf Fault.LineEnd = 26
+-- no entry would be left
+numberOf Fault.NoneLeft = 27
 -- a line that is not six fields in the RFC's grammar
 numberOf Fault.Comma = 29
 -- a line's amount not in its form or over 9,999,999,999 cents

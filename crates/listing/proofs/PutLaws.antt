@@ -10,12 +10,12 @@ use lib.Seq.{sets, sets-eq, take-all}
 use Rattle.text.specs.Decimal.{render}
 use Rattle.layout.specs.declared.Answer.{Answer}
 use Rattle.comma.specs.declared.Placed.{Placed}
-use Rattle.comma.specs.Grammar.{lineSize, linesIn}
+use Rattle.cells.specs.Grammar.{lineSize, linesIn}
 use Rattle.comma.specs.Entries.{rowOfLine}
 use Rattle.comma.specs.Import.{linesAnswer, bankIn, importTable}
-use Rattle.comma.proofs.CellLaws.{rest-of}
-use Rattle.reading.specs.Puts.{Puts, Room}
-use Rattle.reading.proofs.Writing.{puts-both, Left, left-room, left-next}
+use Rattle.cells.proofs.CellLaws.{rest-of}
+use Rattle.putting.specs.Puts.{Puts, Room}
+use Rattle.putting.proofs.Writing.{puts-both, Left, left-room, left-next}
 use Rattle.listing.specs.Parts.{headBytes, rowsBytes}
 use Rattle.listing.proofs.TableLaws.{row-long, table-form}
 use Rattle.listing.proofs.WalkLaws.{Walked, passed-here, rows-next}

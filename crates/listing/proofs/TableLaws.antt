@@ -20,7 +20,7 @@ use Rattle.view.specs.Table.{countWide, fileWide, headWide, batchWide, entryWid
 use Rattle.view.specs.Sized.{All, SizedEntry, Sized}
 use Rattle.view.proofs.Answers.{not-granted}
 use Rattle.view.proofs.Tables.{textsIn, rows-of-entries, entrySections, entry-part}
-use Rattle.comma.specs.Grammar.{sixTexts, linesIn}
+use Rattle.cells.specs.Grammar.{sixTexts, linesIn}
 use Rattle.comma.specs.Entries.{lineVerdict, allColumns, restOfRow, rowOfLine, entriesOfLines}
 use Rattle.comma.specs.Import.{lineAnswer, linesAnswer, bankIn, importView, importTable}
 use Rattle.comma.proofs.EntryLaws.{six-long, line-passed}
@@ -46,7 +46,7 @@ entries-many bank k (l ∷ ls) = ap suc (entries-many bank (k + 1) ls)
 rows-many : (bank : List ℕ) (k : ℕ) (ls : List (List ℕ)) → length (rowsOf bank k ls) ≡ length ls
 rows-many bank k ls = length-map (entriesOfLines bank k ls) (λ e. e .row) ∙ entries-many bank k ls
 
-no-addenda : (bank : List ℕ) (k : ℕ) (ls : List (List ℕ)) → textsIn (entriesOfLines bank k ls) ≡ []
+pub no-addenda : (bank : List ℕ) (k : ℕ) (ls : List (List ℕ)) → textsIn (entriesOfLines bank k ls) ≡ []
 unfolding entriesOfLines
 no-addenda bank k [] = refl
 no-addenda bank k (l ∷ ls) = no-addenda bank (k + 1) ls
@@ -103,10 +103,10 @@ module _ (bank : List ℕ) (b : length bank ≡ 8) where
 
 -- ---- the table of one batch whose entries have no addenda
 
-abbrev oneBatch : List ℕ → List ℕ → List Entry → View
+abbrev pub oneBatch : List ℕ → List ℕ → List Entry → View
 oneBatch filerow head es = record { row = filerow; batches = record { row = head; entries = es } ∷ [] }
 
-one-sized : (filerow head : List ℕ) (es : List Entry) → length filerow ≡ fileWide → length head ≡ headWide → All SizedEntry es → length es < 10 ^ countWide → textsIn es ≡ []
+pub one-sized : (filerow head : List ℕ) (es : List Entry) → length filerow ≡ fileWide → length head ≡ headWide → All SizedEntry es → length es < 10 ^ countWide → textsIn es ≡ []
     → Sized (oneBatch filerow head es)
 one-sized filerow head es f h a few none =
     record {

@@ -11,10 +11,10 @@ use Rattle.layout.specs.declared.Answer.{Answer}
 use Rattle.layout.specs.declared.Fault.{Fault}
 use Rattle.records.specs.declared.Verdict.{Verdict}
 use Rattle.view.specs.Outcome.{refusal}
-use Rattle.comma.specs.Grammar.{lineSize, linesIn}
+use Rattle.cells.specs.Grammar.{lineSize, linesIn}
 use Rattle.comma.specs.Entries.{lineVerdict, rowOfLine, entriesOfLines}
 use Rattle.comma.specs.Import.{lineAnswer, linesAnswer}
-use Rattle.comma.proofs.CellLaws.{rest-of}
+use Rattle.cells.proofs.CellLaws.{rest-of}
 use Rattle.comma.proofs.EntryLaws.{line-passed, line-inside, line-some, lines-next, lines-none, lines-count}
 use Rattle.listing.specs.Parts.{rowsBytes}
 use Rattle.listing.proofs.TableLaws.{first-passed}

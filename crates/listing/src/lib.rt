@@ -2,15 +2,14 @@
 use comma::entries;
 use layout::Answer;
 use records::Verdict;
-use writing::pass;
 ghost use Prim.Native.Nat.{_≤_};
 ghost use mathlib.Core.Path.{_≡_};
 ghost use mathlib.Core.List.{_++_};
 ghost use lib.ListN.{length, drop};
 ghost use Rattle.layout.specs.declared.Answer.{Answer};
-ghost use Rattle.comma.specs.Grammar.{linesIn};
+ghost use Rattle.cells.specs.Grammar.{linesIn};
 ghost use Rattle.comma.specs.Import.{linesAnswer, importTable};
-ghost use Rattle.reading.specs.Puts.{Puts, Room};
+ghost use Rattle.putting.specs.Puts.{Puts, Room};
 ghost use Rattle.listing.specs.Parts.{headBytes, rowsBytes};
 
 // What the lines say: the first fault among them, and where there is none how many they are.
@@ -30,7 +29,7 @@ pub fn listed(lines: &[u8]) -> Listing
         let verdict = line.verdict;
         if let Verdict::Failed(fault, k) = verdict {
             return Listing {
-                answer: pass::refused(fault, count + 1, k),
+                answer: passing::refused(fault, count + 1, k),
                 count: 0,
             };
         }
@@ -48,12 +47,12 @@ fn put_head(filerow: &[u8], batchrow: &[u8], count: u64, table: &mut [u8]) -> us
     requires { ⌜ (length (now filerow) ≡ 85) × (length (now batchrow) ≡ 95) × Room (headBytes (now filerow) (now batchrow) count) (now table) 0 ⌝ }
     ensures { λ r. ⌜ Puts (headBytes (now (filerow .entry)) (now (batchrow .entry)) count) (now (table .entry)) (now (table .exit)) 0 r ⌝ }
 {
-    let file = reading::put_count(1, table, 0);
-    let batches = reading::put_part(filerow, 0, 85, table, file);
-    let batch = reading::put_count(1, table, batches);
-    let own = reading::put_part(batchrow, 0, 89, table, batch);
-    let entries = reading::put_count(count, table, own);
-    reading::put_count(count, table, entries)
+    let file = putting::put_count(1, table, 0);
+    let batches = putting::put_part(filerow, 0, 85, table, file);
+    let batch = putting::put_count(1, table, batches);
+    let own = putting::put_part(batchrow, 0, 89, table, batch);
+    let entries = putting::put_count(count, table, own);
+    putting::put_count(count, table, entries)
 }
 
 // Puts the row of each line, numbered from 1.
@@ -67,7 +66,7 @@ fn put_rows(bank: &[u8], lines: &[u8], table: &mut [u8], start: usize) -> usize
     while at < lines.len() {
         let line = entries::placed(&lines[at..lines.len()], bank, number);
         let row = line.row;
-        to = reading::put_part(&row, 0, 93, table, to);
+        to = putting::put_part(&row, 0, 93, table, to);
         number += 1;
         at += line.size;
     }
@@ -81,5 +80,5 @@ pub fn put_table(filerow: &[u8], batchrow: &[u8], lines: &[u8], count: u64, tabl
 {
     let rows = put_head(filerow, batchrow, count, table);
     let end = put_rows(&batchrow[74..82], lines, table, rows);
-    reading::put_count(0, table, end);
+    putting::put_count(0, table, end);
 }

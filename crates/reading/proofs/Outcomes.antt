@@ -21,15 +21,11 @@ use Rattle.view.proofs.Reading.{file-length}
 use Rattle.view.proofs.BridgeSums.{records-length}
 use Rattle.view.proofs.Bridge.{accepted-view}
 use Rattle.view.proofs.Own.{own-entries, own-records}
-use Rattle.reading.specs.Passes.{wholeBytes}
-use Rattle.reading.specs.Puts.{Puts, Room}
+use Rattle.putting.specs.Passes.{wholeBytes}
+use Rattle.putting.specs.Puts.{Puts, Room}
 use Rattle.reading.proofs.Sections.{file-table, table-length}
 use Rattle.layout.specs.declared.Way.{Way}
 use Rattle.layout.specs.Ways.{recordBytes}
-
--- the first record, as the code cuts it out
-pub first-long : (way : Way) (f : List ℕ) → recordBytes way ≤ length f → length (take 94 f) ≡ 94
-first-long way f h = simp length-take (omega arith)
 
 -- a file of n records
 file-long : (way : Way) (size n : ℕ) → size ≡ recordBytes way * n → 1 ≤ n → recordBytes way ≤ size

@@ -23,7 +23,7 @@ use Rattle.view.specs.Sized.{All, SizedEntry, SizedBatch, Sized}
 use Rattle.view.proofs.Lists.{fold-append}
 use Rattle.view.proofs.Formed.{file-fields, batch-fields, entry-fields, addendum-fields, batch-control-fields, file-control-fields}
 use Rattle.view.proofs.Tables.{entriesIn, textsIn, entries-sized, rows-of-entries}
-use Rattle.reading.specs.Passes.{between, rowOf, rowBytes, batchBytes, headBytes, tailBytes, wholeBytes}
+use Rattle.putting.specs.Passes.{between, rowOf, rowBytes, batchBytes, headBytes, tailBytes, wholeBytes}
 
 abbrev entriesRecords : List Entry → List (List ℕ)
 entriesRecords es = foldr (λ e rs. entryRecords e ++ rs) [] es

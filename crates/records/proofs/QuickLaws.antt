@@ -8,9 +8,9 @@ use Rattle.text.proofs.DecimalLaws.{and-both}
 use Rattle.layout.specs.Fields.{entry, addendum, part}
 use Rattle.kinds.specs.declared.Mark.{Mark}
 use Rattle.kinds.specs.Kinds.{fixed, optionalText, mandatoryText, bank, account, flag}
-use Rattle.rules.specs.declared.Sums.{Sums}
-use Rattle.rules.specs.Field.{codeRule, checkDigitRule, amountRule, traceRule, entryTraceRule}
-use Rattle.rules.specs.Quick.{isRight, entryFront, entryBack, addendumAll}
+use Rattle.near.specs.declared.Sums.{Sums}
+use Rattle.near.specs.Near.{codeRule, checkDigitRule, amountRule, traceRule, entryTraceRule}
+use Rattle.shortcut.specs.Quick.{isRight, entryFront, entryBack, addendumAll}
 use Rattle.records.specs.declared.Verdict.{Verdict}
 use Rattle.records.specs.Run.{fieldsFrom}
 

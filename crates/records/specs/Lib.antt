@@ -1,4 +1,1 @@
-pub mod Order
-pub mod Tally
-pub mod Fair
 pub mod Run

@@ -16,13 +16,13 @@ use Rattle.layout.specs.declared.Way.{Way}
 use Rattle.layout.specs.Fields.{recordColumns, rowsOf, firstField}
 use Rattle.layout.specs.Ways.{endOf, recordBytes}
 use Rattle.kinds.specs.declared.Mark.{Mark}
-use Rattle.rules.specs.declared.Sums.{Sums}
+use Rattle.near.specs.declared.Sums.{Sums}
 use Rattle.rules.specs.Field.{fieldOf}
-use Rattle.records.specs.declared.State.{State}
+use Rattle.tally.specs.declared.State.{State}
 use Rattle.records.specs.declared.Verdict.{Verdict}
 use Rattle.records.specs.declared.Stepped.{Stepped}
-use Rattle.records.specs.Order.{lineAt, complete}
-use Rattle.records.specs.Tally.{start, tally}
+use Rattle.order.specs.Order.{lineAt, complete}
+use Rattle.tally.specs.Tally.{start, tally}
 
 abbrev pub found : Mark → ℕ → Verdict → Verdict
 found Mark.Right k rest = rest

@@ -1,15 +1,14 @@
 // Whether every field of a record is right, where the quick test knows its type; false says nothing.
 use layout::Line;
-use rules::Said;
-use rules::Sums;
-use rules::quick;
+use near::Numbers;
+use near::Sums;
 ghost use mathlib.Core.Path.{_≡_};
 ghost use mathlib.Core.Bool.{true};
 ghost use Prim.Native.Nat.{_≤_};
 ghost use lib.ListN.{length, drop};
 ghost use Rattle.layout.specs.Fields.{rowsOf, firstField};
-ghost use Rattle.kinds.specs.Groups.{groupSums};
-ghost use Rattle.rules.specs.Quick.{saidOf};
+ghost use Rattle.groups.specs.Groups.{groupSums};
+ghost use Rattle.near.specs.Near.{saidOf};
 ghost use Rattle.records.specs.declared.Verdict.{Verdict};
 ghost use Rattle.records.specs.Run.{fieldsFrom};
 
@@ -18,7 +17,7 @@ pub fn passes(
     line: Line,
     sums: Sums,
     header: &[u8],
-    said: Said,
+    said: Numbers,
     rec: &[u8],
 ) -> bool
     requires { ⌜ (length (now header) ≡ 94) × (length (now rec) ≡ 94) × (said ≡ saidOf (now rec)) × (now groups ≡ groupSums) ⌝ }
@@ -26,12 +25,12 @@ pub fn passes(
 {
     match line {
         Line::Entry => {
-            if !quick::entry_front(groups, header, said, rec) {
+            if !shortcut::entry_front(groups, header, said, rec) {
                 return false;
             }
-            quick::entry_back(sums, header, said, rec)
+            shortcut::entry_back(sums, header, said, rec)
         }
-        Line::Addendum => quick::addendum_all(sums, rec),
+        Line::Addendum => shortcut::addendum_all(sums, rec),
         _ => false,
     }
 }
@@ -42,7 +41,7 @@ pub fn walk_from(
     line: Line,
     sums: Sums,
     header: &[u8],
-    said: Said,
+    said: Numbers,
     rec: &[u8],
 ) -> usize
     requires { ⌜ (length (now header) ≡ 94) × (length (now rec) ≡ 94) × (said ≡ saidOf (now rec)) × (now groups ≡ groupSums) ⌝ }

@@ -1,23 +1,22 @@
 // One record's check.
-use crate::State;
 use crate::Stepped;
 use crate::Verdict;
-use crate::order;
 use crate::quick;
-use crate::tally;
 use kinds::Mark;
 use layout::Line;
-use rules::Sums;
+use layout::Way;
+use near::Sums;
 use rules::field;
-use rules::near;
+use tally::State;
 ghost use Prim.Native.Nat.{_+_, _<_};
 ghost use mathlib.Core.Path.{_≡_};
 ghost use lib.ListN.{length};
 ghost use Rattle.layout.specs.Fields.{rowsOf, firstField};
-ghost use Rattle.kinds.specs.Groups.{groupSums};
-ghost use Rattle.rules.specs.Small.{Small};
-ghost use Rattle.records.specs.Fair.{Fair};
-ghost use Rattle.records.specs.Run.{fieldsFrom, bare, recordOf};
+ghost use Rattle.layout.specs.Ways.{recordBytes};
+ghost use Rattle.groups.specs.Groups.{groupSums};
+ghost use Rattle.near.specs.Small.{Small};
+ghost use Rattle.tally.specs.Fair.{Fair};
+ghost use Rattle.records.specs.Run.{fieldsFrom, bare, pieceOf, recordOf};
 
 // The first field that is wrong, if any, of a record that is taken for this line.
 pub fn fields(groups: &[u8; 1000], line: Line, sums: Sums, header: &[u8], rec: &[u8]) -> Verdict
@@ -55,5 +54,16 @@ pub fn check(groups: &[u8; 1000], st: State, rec: &[u8]) -> Stepped
             verdict: Verdict::Failed(fault, number),
             state: st,
         },
+    }
+}
+
+// Whether the line end of the way follows a record's columns.
+pub fn closed(way: Way, rec: &[u8]) -> bool
+    requires { ⌜ length (now rec) ≡ recordBytes way ⌝ }
+    ensures { λ r. ⌜ r ≡ pieceOf way (now (rec .entry)) .closed ⌝ }
+{
+    match way {
+        Way::Plain => true,
+        Way::Lined => (rec[94] == 13) & (rec[95] == 10),
     }
 }

@@ -1,3 +1,1 @@
 pub mod Field
-pub mod Small
-pub mod Quick

@@ -1,6 +1,4 @@
 // The single-field check: a row of the record type's table against the record.
-use crate::Sums;
-use crate::near;
 use kinds::Mark;
 use kinds::own;
 use kinds::texts;
@@ -8,6 +6,7 @@ use layout::Fault;
 use layout::Kind;
 use layout::Line;
 use layout::Sum;
+use near::Sums;
 ghost use Prim.Native.Nat.{_+_, _≤_, _<_, _^_, _-_};
 ghost use mathlib.Core.Path.{_≡_};
 ghost use mathlib.Core.Bool.{true, _&&_};
@@ -15,9 +14,9 @@ ghost use lib.Dec.{leb};
 ghost use lib.ListN.{length, getD};
 ghost use Rattle.layout.specs.Fields.{rowsOf, noRow};
 ghost use Rattle.layout.specs.Fits.{kindFits};
-ghost use Rattle.kinds.specs.Groups.{groupSums};
+ghost use Rattle.groups.specs.Groups.{groupSums};
 ghost use Rattle.rules.specs.Field.{sumOf, countRule, hashRule, totalRule, asBatchRule, kindRule, fieldOf};
-ghost use Rattle.rules.specs.Small.{Small};
+ghost use Rattle.near.specs.Small.{Small};
 
 // The sum that a control field repeats.
 pub fn sum_of(sums: Sums, which: Sum) -> u64

@@ -2,13 +2,13 @@
 -- Assumes nothing.
 use mathlib.Core.Path.{_≡_, refl, sym, ap, _∙_}
 use mathlib.Core.Logic.{_≢_}
-use mathlib.Core.List.{List, [], _∷_, _++_, append-assoc}
+use mathlib.Core.List.{List, [], _∷_, _++_, append-assoc, append-nil}
 use Prim.Native.Nat.{ℕ, zero, suc, _+_, _-_, _*_, _≤_, _<_}
 use native.Mathlib.Nat.{add-zero, zero-add, add-suc, suc-add, mul-zero, mul-suc, mul-le-mul-left, le-refl, le-of-suc-le-suc}
 use native.Mathlib.Numerals.{add-one}
 use native.Mathlib.Omega.{arith}
 use lib.ListN.{length, take, drop, getD, set, length-set, length-drop, take-append-drop}
-use lib.Seq.{sets, length-sets, sets-eq, drop-cons, drop-drop, take-nil, drop-nil, drop-at, take-length, take-append-le, drop-append-le, length-take-le, set-append-left, set-comm, take-set-le, drop-set-lt, drop-set-add, getD-take, getD-drop, getD-set-same, getD-set-other}
+use lib.Seq.{sets, length-sets, sets-eq, drop-cons, drop-drop, drop-length, take-nil, drop-nil, drop-at, take-length, take-append-le, drop-append-le, length-take-le, set-append-left, set-comm, take-set-le, drop-set-lt, drop-set-add, getD-take, getD-drop, getD-set-same, getD-set-other}
 use Rattle.text.specs.Patch.{patch}
 use Rattle.text.specs.Rows.{joined, rows}
 use Rattle.text.specs.Widths.{AllLong}
@@ -139,3 +139,14 @@ sets-joined w (r ∷ rs) (suc k) o vs h g e =
 -- the row itself
 pub patch-row : (rs : List (List ℕ)) (k o : ℕ) (vs : List ℕ) → k < length rs → getD (patch rs k o vs) k [] ≡ sets (getD rs k []) o vs
 patch-row rs k o vs h = rw patch-set (getD-set-same rs k (sets (getD rs k []) o vs) [] h)
+
+-- a whole list written over another of the same length
+pub sets-whole : (l vs : List ℕ) → length vs ≡ length l → sets l 0 vs ≡ vs
+sets-whole l vs e =
+    sets-eq vs l 0 (omega arith) ∙ rw (zero-add, e, drop-length) (append-nil vs)
+
+-- a part behind what is passed over
+pub drop-take : {A : Type 0} (m n : ℕ) (l : List A) → drop m (take (m + n) l) ≡ take n (drop m l)
+drop-take zero n l = rw zero-add
+drop-take (suc m) n [] = rw (suc-add, take-nil n)
+drop-take (suc m) n (x ∷ l) = rw suc-add (drop-take m n l)

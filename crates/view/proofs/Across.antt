@@ -10,7 +10,8 @@ use Rattle.text.specs.Decimal.{every, valueFrom, render}
 use Rattle.text.specs.Same.{sameBytes}
 use Rattle.text.specs.Rows.{rows, joined}
 use Rattle.layout.specs.declared.Answer.{Answer}
-use Rattle.kinds.specs.Kinds.{weighed, unbroken, checkDigit}
+use Rattle.groups.specs.Groups.{weighed, checkDigit}
+use Rattle.kinds.specs.Kinds.{unbroken}
 use Rattle.records.specs.Run.{checkedOf, runFrom, fieldsFrom}
 use Rattle.view.specs.View.{Entry, Batch, View, sumOver, bodyOf, recordsOf, fileOf, viewOf}
 use Rattle.view.specs.Table.{withEntries, withAddenda, everyRow, shaped, tableBytes, viewOfTable}

@@ -19,9 +19,9 @@ use Rattle.text.proofs.SetLaws.{sets-same}
 use Rattle.layout.specs.declared.Answer.{Answer}
 use Rattle.layout.specs.declared.Refusal.{Refusal}
 use Rattle.layout.specs.Fields.{entry, batchControl, fileControl, part}
-use Rattle.kinds.specs.declared.Use.{Use}
-use Rattle.kinds.specs.declared.Code.{Code}
-use Rattle.kinds.specs.Codes.{codeOf, useCarries, carries}
+use Rattle.codes.specs.declared.Use.{Use}
+use Rattle.codes.specs.declared.Code.{Code}
+use Rattle.codes.specs.Codes.{codeOf, useCarries, carries}
 use Rattle.records.specs.Run.{checkedOf}
 use Rattle.view.specs.View.{Entry, View, entryRecord, entriesOf, amountOf, codeIn, fileOf, viewOf}
 use Rattle.view.specs.Table.{viewOfTable, formed, tableOf}

@@ -17,10 +17,10 @@ use Rattle.text.proofs.DecimalLaws.{length-render, value-render-lt}
 use Rattle.text.proofs.RowLaws.{length-joined}
 use Rattle.text.proofs.SetLaws.{patch-set, length-patch, sets-left, sets-right, sets-joined, part-sets-before, part-sets-at, part-sets-behind}
 use Rattle.layout.specs.Fields.{part, entry}
-use Rattle.kinds.specs.declared.Use.{Use}
-use Rattle.kinds.specs.declared.Code.{Code}
-use Rattle.kinds.specs.Codes.{codeOf, debitPart, creditPart}
-use Rattle.rules.specs.Field.{entryFlag}
+use Rattle.codes.specs.declared.Use.{Use}
+use Rattle.codes.specs.declared.Code.{Code}
+use Rattle.codes.specs.Codes.{codeOf, debitPart, creditPart}
+use Rattle.near.specs.Near.{entryFlag}
 use Rattle.view.specs.View.{Entry, Batch, View, entryRecord, entriesOf, sumOver, recordsIn, bankOf, amountOf, codeIn, debitOf, creditOf, batchRecords}
 use Rattle.view.specs.Table.{countWide, entryWide, batchRow, addendaOf, tableBytes}
 use Rattle.view.specs.Outcome.{noEntry, entryAt, spotFrom, spotOf, amended, amendEntry, amendBatch, amend, alteredTable}

@@ -19,9 +19,9 @@ use Rattle.layout.specs.declared.Row.{Row}
 use Rattle.layout.specs.declared.Way.{Way}
 use Rattle.layout.specs.Ways.{recordBytes}
 use Rattle.layout.specs.Fields.{noRow, entry, batchControl, fileControl}
-use Rattle.kinds.specs.declared.Use.{Use}
-use Rattle.kinds.specs.declared.Code.{Code}
-use Rattle.kinds.specs.Codes.{codeOf}
+use Rattle.codes.specs.declared.Use.{Use}
+use Rattle.codes.specs.declared.Code.{Code}
+use Rattle.codes.specs.Codes.{codeOf}
 use Rattle.view.specs.View.{Entry, Batch, View, closedBy, written, fileRecord, entryRecord, addendumRecord, entryRecords, batchRecord, batchRecords, batchControlRecord, fileControlRecord, fillerRecord, fillersAfter, entriesOf, sumOver, recordsIn, codeIn, debitOf, creditOf, bodyOf, recordsOf, fileOf}
 use Rattle.view.specs.Outcome.{noEntry, entryAt, spotOf, entryNumber, batchControlNumber, fileControlNumber, amended, amendEntry, amend}
 use Rattle.view.specs.Sized.{Sized}

@@ -20,11 +20,12 @@ use Rattle.layout.specs.declared.Answer.{Answer}
 use Rattle.layout.specs.declared.Refusal.{Refusal}
 use Rattle.layout.specs.Fields.{entry, part}
 use Rattle.kinds.specs.declared.Mark.{Mark}
-use Rattle.kinds.specs.declared.Use.{Use}
-use Rattle.kinds.specs.declared.Code.{Code}
+use Rattle.codes.specs.declared.Use.{Use}
+use Rattle.codes.specs.declared.Code.{Code}
 use Rattle.kinds.specs.Kinds.{need}
-use Rattle.kinds.specs.Codes.{codeOf, useCarries, carries}
-use Rattle.rules.specs.Field.{amountRule, entryCode, entryTrace, batchNumber, totalLimit}
+use Rattle.codes.specs.Codes.{codeOf, useCarries, carries}
+use Rattle.near.specs.Near.{amountRule, entryCode, entryTrace, batchNumber}
+use Rattle.rules.specs.Field.{totalLimit}
 use Rattle.view.specs.View.{Entry, Batch, View, batchRecord, entryRecord, entriesOf, sumOver, recordsIn, amountOf, codeIn, debitOf, creditOf, recordsOf}
 use Rattle.view.specs.Outcome.{demand, noEntry, entryAt, Spot, spotOf, amended, amendEntry, amend, within, limits}
 use Rattle.view.specs.Sized.{All, SizedEntry, Sized}

@@ -21,7 +21,7 @@ use Rattle.layout.specs.declared.Way.{Way}
 use Rattle.layout.specs.Ways.{recordBytes}
 use Rattle.layout.specs.declared.Answer.{Answer}
 use Rattle.layout.specs.declared.Fault.{Fault}
-use Rattle.records.specs.Tally.{start}
+use Rattle.tally.specs.Tally.{start}
 use Rattle.records.specs.Run.{runFrom, refused, checkedOf, lengthFits, mostRecords, rawRecords, pieceOf}
 use Rattle.records.proofs.Ways.{some-bytes, rows-inside, rows-whole, rows-few, rows-many}
 use Rattle.view.specs.View.{View, closedBy, recordsOf, fileOf, viewOf, entriesOf}

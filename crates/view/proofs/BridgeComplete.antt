@@ -8,8 +8,8 @@ use lib.ListN.{length}
 use Rattle.layout.specs.declared.Line.{Line}
 use Rattle.layout.specs.Fields.{rowsOf}
 use Rattle.kinds.specs.declared.Mark.{Mark}
-use Rattle.rules.specs.declared.Sums.{Sums}
-use Rattle.records.specs.Tally.{start, noSums, addRecord, addBatch}
+use Rattle.near.specs.declared.Sums.{Sums}
+use Rattle.tally.specs.Tally.{start, noSums, addRecord, addBatch}
 use Rattle.view.specs.View.{Entry, Batch, View, batchRecord, recordsOf, recordsIn, sumOver}
 use Rattle.view.specs.Sized.{All, SizedBatch, Sized}
 use Rattle.view.specs.Keeps.{Right, EntriesKeep, BatchesKeep, Keeps}

@@ -13,9 +13,9 @@ use Rattle.text.specs.Decimal.{every, render}
 use Rattle.text.proofs.DecimalLaws.{digits-render, value-render-lt, same-equal}
 use Rattle.layout.specs.Fields.{batchControl, fileControl}
 use Rattle.kinds.specs.declared.Mark.{Mark}
-use Rattle.rules.specs.declared.Sums.{Sums}
+use Rattle.near.specs.declared.Sums.{Sums}
 use Rattle.rules.specs.Field.{fieldOf, countRule, hashRule, totalRule, asBatchRule, hashOf, totalLimit}
-use Rattle.records.specs.Tally.{addBatch}
+use Rattle.tally.specs.Tally.{addBatch}
 use Rattle.records.specs.Run.{mostRecords}
 use Rattle.view.specs.View.{Batch, View, batchRecord, batchControlRecord, fileControlRecord, recordsOf, entriesOf, recordsIn, debitOf, creditOf, sumOver}
 use Rattle.view.specs.Sized.{All}

@@ -17,7 +17,7 @@ use Rattle.layout.specs.declared.Kind.{Kind}
 use Rattle.layout.specs.declared.Row.{Row}
 use Rattle.kinds.specs.declared.Mark.{Mark}
 use Rattle.kinds.specs.Kinds.{need}
-use Rattle.rules.specs.declared.Sums.{Sums}
+use Rattle.near.specs.declared.Sums.{Sums}
 use Rattle.rules.specs.Field.{fieldOf, kindRule, sumOf, hashOf, totalLimit, totalRule}
 use Rattle.records.specs.declared.Verdict.{Verdict}
 use Rattle.records.specs.Run.{found, fieldsFrom}

@@ -19,8 +19,9 @@ use Rattle.text.proofs.RowLaws.{joined-cut, length-columns}
 use Rattle.layout.specs.declared.Row.{Row}
 use Rattle.layout.specs.Fields.{noRow, part, fileHeader, batchHeader, entry, addendum, batchControl, fileControl, filler}
 use Rattle.kinds.specs.declared.Mark.{Mark}
-use Rattle.rules.specs.declared.Sums.{Sums}
-use Rattle.rules.specs.Field.{fieldOf, entryTraceRule}
+use Rattle.near.specs.declared.Sums.{Sums}
+use Rattle.near.specs.Near.{entryTraceRule}
+use Rattle.rules.specs.Field.{fieldOf}
 use Rattle.view.specs.View.{Entry, Batch, fileRecord, batchRecord, entryRecord, addendumRecord, fillerRecord}
 use Rattle.view.specs.Keeps.{Right}
 use Rattle.view.proofs.BridgeFields.{need-right, number-same, decides, decided, field-decided}

@@ -18,10 +18,10 @@ use Rattle.layout.specs.Ways.{endOf}
 use Rattle.layout.specs.declared.Answer.{Answer}
 use Rattle.layout.specs.Fields.{fileHeader, rowsOf, firstField}
 use Rattle.layout.specs.declared.Fault.{Fault}
-use Rattle.records.specs.declared.State.{State}
+use Rattle.tally.specs.declared.State.{State}
 use Rattle.records.specs.declared.Verdict.{Verdict}
-use Rattle.records.specs.Order.{complete}
-use Rattle.records.specs.Tally.{start, noSums, tally}
+use Rattle.order.specs.Order.{complete}
+use Rattle.tally.specs.Tally.{start, noSums, tally}
 use Rattle.records.specs.Run.{fieldsFrom, lineOf, Piece, closing, pieceOf, stepped, onward, runFrom, accepted, refused}
 use Rattle.view.specs.View.{View, closedBy, fileRecord, recordsOf, entriesOf, fillersAfter, fillerRecord}
 use Rattle.view.specs.Sized.{All, SizedBatch}

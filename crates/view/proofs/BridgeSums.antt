@@ -8,11 +8,11 @@ use native.Mathlib.Nat.{add-assoc, zero-add}
 use native.Mathlib.Omega.{arith}
 use lib.ListN.{length, replicate, length-append, length-map, length-replicate}
 use borrow.Author.Tests.{eqb-true, eqb-false, eq-eqb, ne-eqb}
-use Rattle.kinds.specs.Codes.{codeRow}
-use Rattle.rules.specs.declared.Sums.{Sums}
-use Rattle.rules.specs.Field.{entryTrace, batchNumber}
-use Rattle.records.specs.Order.{filled}
-use Rattle.records.specs.Tally.{noSums, addRecord, addBatch, addEntry, addAddendum, addToRow}
+use Rattle.codes.specs.Codes.{codeRow}
+use Rattle.near.specs.declared.Sums.{Sums}
+use Rattle.near.specs.Near.{entryTrace, batchNumber}
+use Rattle.order.specs.Order.{filled}
+use Rattle.tally.specs.Tally.{noSums, addRecord, addBatch, addEntry, addAddendum, addToRow}
 use Rattle.view.specs.View.{Entry, Batch, View, sumOver, recordsIn, bankOf, debitOf, creditOf, amountOf, codeIn, entryRecord, addendumRecord, entryRecords, batchRecord, batchRecords, batchControlRecord, fileControlRecord, bodyOf, recordsOf, entriesOf, fillersAfter, fillerRecord}
 use Rattle.view.proofs.Lists.{sum-append}
 use Rattle.view.proofs.Tables.{entriesIn, textsIn}

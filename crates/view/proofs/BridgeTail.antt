@@ -16,11 +16,12 @@ use Rattle.text.proofs.DecimalLaws.{every-take, every-drop, render-value}
 use Rattle.text.proofs.RowLaws.{length-columns}
 use Rattle.layout.specs.declared.Line.{Line}
 use Rattle.layout.specs.Fields.{part, rowsOf, fileHeader, batchHeader, entry, addendum, batchControl, fileControl}
-use Rattle.rules.specs.declared.Sums.{Sums}
-use Rattle.rules.specs.Field.{traceNumber, totalLimit}
-use Rattle.records.specs.declared.Place.{Place}
-use Rattle.records.specs.Order.{lineAt, nextPlace, complete, takesAddendum}
-use Rattle.records.specs.Tally.{addRecord, addBatch, addEntry, addAddendum, nextSums, nextHeader}
+use Rattle.near.specs.declared.Sums.{Sums}
+use Rattle.near.specs.Near.{traceNumber}
+use Rattle.rules.specs.Field.{totalLimit}
+use Rattle.order.specs.declared.Place.{Place}
+use Rattle.order.specs.Order.{lineAt, nextPlace, complete, takesAddendum}
+use Rattle.tally.specs.Tally.{addRecord, addBatch, addEntry, addAddendum, nextSums, nextHeader}
 use Rattle.view.specs.View.{Entry, Batch, addendumRecord, batchRecord, batchControlRecord, fillersAfter, fillerRecord}
 use Rattle.view.specs.Table.{addendaDue}
 use Rattle.view.specs.Sized.{All, SizedEntry, SizedBatch}

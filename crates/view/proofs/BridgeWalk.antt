@@ -13,12 +13,12 @@ use Rattle.text.specs.Widths.{AllLong}
 use Rattle.layout.specs.declared.Checked.{Checked}
 use Rattle.layout.specs.declared.Line.{Line}
 use Rattle.layout.specs.Fields.{rowsOf, firstField}
-use Rattle.rules.specs.declared.Sums.{Sums}
-use Rattle.records.specs.declared.Place.{Place}
-use Rattle.records.specs.declared.State.{State}
+use Rattle.near.specs.declared.Sums.{Sums}
+use Rattle.order.specs.declared.Place.{Place}
+use Rattle.tally.specs.declared.State.{State}
 use Rattle.records.specs.declared.Verdict.{Verdict}
-use Rattle.records.specs.Order.{lineAt, takesAddendum}
-use Rattle.records.specs.Tally.{start, noSums, addRecord, addBatch, addEntry, tally}
+use Rattle.order.specs.Order.{lineAt, takesAddendum}
+use Rattle.tally.specs.Tally.{start, noSums, addRecord, addBatch, addEntry, tally}
 use Rattle.records.specs.Run.{fieldsFrom, lineOf, stepped, onward, runFrom, accepted}
 use Rattle.view.specs.View.{Entry, Batch, View, entryRecord, addendumRecord, batchRecord, batchControlRecord, fileRecord, fileControlRecord, bodyOf, recordsOf, entriesOf, fillersAfter, fillerRecord}
 use Rattle.view.specs.Sized.{All, SizedEntry, SizedBatch, Sized}

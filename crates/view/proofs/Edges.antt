@@ -8,8 +8,10 @@ use Rattle.text.specs.Decimal.{every, valueFrom, render}
 use Rattle.layout.specs.Fields.{part, entry}
 use Rattle.layout.specs.Paper.{numberOf}
 use Rattle.kinds.specs.declared.Mark.{Mark}
-use Rattle.kinds.specs.Kinds.{date, time, weighed, checkDigit, unbroken, account}
-use Rattle.rules.specs.Field.{amountRule, hashOf, hashRule, totalRule}
+use Rattle.groups.specs.Groups.{weighed, checkDigit}
+use Rattle.kinds.specs.Kinds.{date, time, unbroken, account}
+use Rattle.near.specs.Near.{amountRule}
+use Rattle.rules.specs.Field.{hashOf, hashRule, totalRule}
 use Rattle.view.specs.View.{Entry, View, entryRecord, sumOver, bankOf, creditOf, fillersAfter, fillerRecord, bodyOf, recordsOf}
 
 -- the paper's number for a field, 0 where it is right

@@ -18,9 +18,9 @@ use Rattle.layout.specs.declared.Checked.{Checked}
 use Rattle.layout.specs.declared.Fault.{Fault}
 use Rattle.kinds.specs.declared.Mark.{Mark}
 use Rattle.kinds.specs.Kinds.{need}
-use Rattle.kinds.specs.Codes.{codeOf, codeRow, known, allowed}
-use Rattle.rules.specs.Field.{codeRule, batchClass}
-use Rattle.records.specs.Tally.{addToRow}
+use Rattle.codes.specs.Codes.{codeOf, codeRow, known, allowed}
+use Rattle.near.specs.Near.{codeRule, batchClass}
+use Rattle.tally.specs.Tally.{addToRow}
 use Rattle.records.specs.Run.{checkedOf, columnsIn}
 use Rattle.view.specs.View.{Entry, Batch, View, sumOver, codeIn, amountOf, debitOf, creditOf, entriesOf, recordsOf, fileOf, viewOf}
 use Rattle.view.specs.Table.{addendaOf, viewOfTable, tableOf}

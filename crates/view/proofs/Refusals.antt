@@ -26,11 +26,12 @@ use Rattle.layout.specs.Paper.{numberOf}
 use Rattle.layout.specs.Fields.{rowsOf, firstField, fileHeader, batchHeader, entry, addendum, batchControl, fileControl}
 use Rattle.kinds.specs.declared.Mark.{Mark}
 use Rattle.kinds.specs.Kinds.{need, fixed, leads, destination, ownRule}
-use Rattle.rules.specs.declared.Sums.{Sums}
-use Rattle.rules.specs.Field.{fieldOf, kindRule, nearRule, totalRule, totalLimit}
-use Rattle.records.specs.declared.State.{State}
+use Rattle.near.specs.declared.Sums.{Sums}
+use Rattle.near.specs.Near.{nearRule}
+use Rattle.rules.specs.Field.{fieldOf, kindRule, totalRule, totalLimit}
+use Rattle.tally.specs.declared.State.{State}
 use Rattle.records.specs.declared.Verdict.{Verdict}
-use Rattle.records.specs.Tally.{start, noSums, addRecord, addBatch, addEntry, tally}
+use Rattle.tally.specs.Tally.{start, noSums, addRecord, addBatch, addEntry, tally}
 use Rattle.records.specs.Run.{found, fieldsFrom, lineOf, mostRecords, checkedOf}
 use Rattle.view.specs.View.{Entry, Batch, View, fileRecord, batchRecord, entryRecord, addendumRecord, batchControlRecord, fileControlRecord, recordsOf, recordsIn, sumOver, fileOf}
 use Rattle.view.specs.Table.{shaped, formed, viewOfTable}

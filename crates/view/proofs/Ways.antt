@@ -17,7 +17,7 @@ use Rattle.text.proofs.SetLaws.{sets-left}
 use Rattle.layout.specs.declared.Way.{Way}
 use Rattle.layout.specs.declared.Checked.{Checked}
 use Rattle.layout.specs.Ways.{endOf, recordBytes}
-use Rattle.records.specs.declared.State.{State}
+use Rattle.tally.specs.declared.State.{State}
 use Rattle.records.proofs.Ways.{some-bytes}
 use Rattle.records.specs.Run.{bare, pieceOf, rawRecords, columnsIn, runFrom}
 use Rattle.view.specs.View.{closedBy}

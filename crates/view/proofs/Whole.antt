@@ -13,7 +13,8 @@ use Rattle.records.specs.Run.{checkedOf, runFrom, fieldsFrom}
 use Rattle.text.specs.Decimal.{every, valueFrom, render}
 use Rattle.text.specs.Same.{sameBytes}
 use Rattle.text.specs.Rows.{rows, joined}
-use Rattle.kinds.specs.Kinds.{weighed, unbroken}
+use Rattle.groups.specs.Groups.{weighed}
+use Rattle.kinds.specs.Kinds.{unbroken}
 use Rattle.view.specs.View.{sumOver, fillerRecord, closedBy}
 use Rattle.view.specs.Table.{withEntries, withAddenda, everyRow, shaped, formed, tableOf}
 use Rattle.view.specs.Outcome.{alterOf, spotFrom, amendEntry, amendBatch, alteredTable, addendumOf}

@@ -9,8 +9,9 @@ use Rattle.text.specs.Decimal.{pick}
 use Rattle.layout.specs.declared.Row.{Row}
 use Rattle.layout.specs.Fields.{fileHeader, batchHeader, entry, addendum}
 use Rattle.kinds.specs.declared.Mark.{Mark}
-use Rattle.rules.specs.declared.Sums.{Sums}
-use Rattle.rules.specs.Field.{fieldOf, entryTrace, batchNumber, totalLimit}
+use Rattle.near.specs.declared.Sums.{Sums}
+use Rattle.near.specs.Near.{entryTrace, batchNumber}
+use Rattle.rules.specs.Field.{fieldOf, totalLimit}
 use Rattle.records.specs.Run.{mostRecords}
 use Rattle.view.specs.View.{Entry, Batch, View, fileRecord, batchRecord, entryRecord, addendumRecord, sumOver, codeIn, amountOf, debitOf, creditOf, recordsIn, entriesOf, recordsOf}
 use Rattle.view.specs.Table.{addendaDue}

@@ -15,8 +15,8 @@ use Rattle.layout.specs.declared.Row.{Row}
 use Rattle.layout.specs.declared.Way.{Way}
 use Rattle.layout.specs.Fields.{noRow, entry, addendum}
 use Rattle.layout.specs.Ways.{recordBytes}
-use Rattle.kinds.specs.declared.Code.{Code}
-use Rattle.kinds.specs.Codes.{codeOf, carries}
+use Rattle.codes.specs.declared.Code.{Code}
+use Rattle.codes.specs.Codes.{codeOf, carries}
 use Rattle.rules.specs.Field.{totalLimit}
 use Rattle.records.specs.Run.{checkedOf}
 use Rattle.view.specs.View.{Entry, Batch, View, written, entryRecord, entriesOf, sumOver, recordsIn, debitOf, creditOf, amountOf, codeIn, batchRecords, bodyOf, fileOf, viewOf}

@@ -1,3 +1,1 @@
-pub mod WalkLaws
-pub mod PassLaws
 pub mod WriteLaws

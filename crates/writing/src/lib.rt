@@ -14,20 +14,6 @@ ghost use Rattle.view.specs.Table.{shaped, viewOfTable};
 ghost use Rattle.view.specs.Outcome.{writeOf};
 ghost use Rattle.writing.specs.Judge.{writable};
 
-pub mod pass;
-mod walk;
-
-// Where the walk along a table has got to: the batches to come and the next one's row, the entries left in this batch, the next
-// entry's row, the row of the entry before it, and the next addendum.
-pub struct Cursor {
-    pub batches: usize,
-    pub batch: usize,
-    pub left: usize,
-    pub entry: usize,
-    pub last: usize,
-    pub text: usize,
-}
-
 // How many records the formed file has, filler included.
 fn records_in(table: &[u8]) -> usize
     requires { ⌜ shaped (now table) ≡ true ⌝ }
@@ -43,12 +29,12 @@ pub fn judge(table: &[u8]) -> Answer
     ensures { λ r. ⌜ r ≡ writable (now (table .entry)) ⌝ }
 {
     if !shape::shaped(table) {
-        return pass::refused(Fault::Shape, 0, 0);
+        return passing::refused(Fault::Shape, 0, 0);
     }
     if 1_000_000 < records_in(table) {
-        return pass::refused(Fault::Length, 0, 0);
+        return passing::refused(Fault::Length, 0, 0);
     }
-    pass::judged(table)
+    passing::judged(table)
 }
 
 // Forms the table's file in front of the lent bytes. A refusal leaves them as they are: the shape's comes first, then those of the
@@ -65,11 +51,11 @@ pub fn write(way: Way, table: &[u8], file: &mut [u8]) -> Made
     let size = layout::record_bytes(way) * records_in(table);
     if file.len() < size {
         return Made {
-            answer: pass::refused(Fault::Room, 0, 0),
+            answer: passing::refused(Fault::Room, 0, 0),
             length: 0,
         };
     }
-    pass::put_formed(way, table, file);
+    passing::put_formed(way, table, file);
     Made {
         answer: Answer::Granted,
         length: size as u64,

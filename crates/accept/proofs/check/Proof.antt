@@ -1,8 +1,9 @@
 use Rattle.accept.proofs.Laws.{left, walk, zero-at, at-most, unfit, fit, run-stop, run-unclosed, run-on, run-end, fits-from, header-long, state, state-path}
-use Rattle.records.proofs.Laws.{fields-right, fields-wrong, fields-end, first-le, rows-few, records-next, said-small}
-use Rattle.rules.specs.declared.Sums.{Sums}
-use Rattle.records.specs.declared.State.{State}
-use Rattle.records.specs.Fair.{Fair}
+use Rattle.tally.proofs.TallyLaws.{records-next, said-small}
+use Rattle.records.proofs.Laws.{fields-right, fields-wrong, fields-end, first-le, rows-few}
+use Rattle.near.specs.declared.Sums.{Sums}
+use Rattle.tally.specs.declared.State.{State}
+use Rattle.tally.specs.Fair.{Fair}
 use Rattle.records.proofs.Ways.{columnsAt, columns-long, raw-long, some-bytes}
 use Rattle.records.specs.Run.{fieldsFrom, checkedOf}
 use Rattle.layout.specs.Ways.{recordBytes}
@@ -21,20 +22,20 @@ use Rattle.accept.proofs.check.Lts as lts
 use Rattle.accept.proofs.finished.Reads as finished-reads
 use Rattle.accept.proofs.refused.Reads as refused-reads
 use Rattle.accept.proofs.whole_records.Reads as whole-records-reads
-use Rattle.kinds.proofs.groups.table.Reads as table-reads
+use Rattle.groups.proofs.table.Reads as table-reads
 use Rattle.layout.proofs.first_field.Reads as first-field-reads
 use Rattle.layout.proofs.record_bytes.Reads as record-bytes-reads
 use Rattle.layout.proofs.rows_in.Reads as rows-in-reads
-use Rattle.records.proofs.order.closed.Reads as closed-reads
-use Rattle.records.proofs.order.line_at.Reads as line-at-reads
-use Rattle.records.proofs.order.next_place.Reads as next-place-reads
+use Rattle.records.proofs.step.closed.Reads as closed-reads
+use Rattle.order.proofs.line_at.Reads as line-at-reads
+use Rattle.order.proofs.next_place.Reads as next-place-reads
 use Rattle.records.proofs.quick.walk_from.Reads as walk-from-reads
-use Rattle.records.proofs.tally.count_in_row.Reads as count-in-row-reads
-use Rattle.records.proofs.tally.next_header.Reads as next-header-reads
-use Rattle.records.proofs.tally.next_sums.Reads as next-sums-reads
-use Rattle.records.proofs.tally.start.Reads as start-reads
+use Rattle.tally.proofs.count_in_row.Reads as count-in-row-reads
+use Rattle.tally.proofs.next_header.Reads as next-header-reads
+use Rattle.tally.proofs.next_sums.Reads as next-sums-reads
+use Rattle.tally.proofs.start.Reads as start-reads
 use Rattle.rules.proofs.field.field.Reads as field-reads
-use Rattle.rules.proofs.near.said.Reads as said-reads
+use Rattle.near.proofs.said.Reads as said-reads
 
 abbrev Inv-loop : tie.InvT-loop
 Inv-loop way file size wide groups place sums header bycode at rec line said count number₀ k₀ number k = (k ≤ length (rowsOf line)) × (number ≤ k + 1) × (fieldsFrom number (drop k (rowsOf line)) sums header rec ≡ fieldsFrom (firstField line) (rowsOf line) sums header rec)

@@ -6,7 +6,7 @@ use Rattle.accept.proofs.finished.Tie as tie
 use Rattle.accept.proofs.finished.Reads as reads
 use Rattle.accept.proofs.finished.Lts as lts
 use Rattle.accept.proofs.refused.Reads as refused-reads
-use Rattle.records.proofs.order.complete.Reads as complete-reads
+use Rattle.order.proofs.complete.Reads as complete-reads
 
 -- src/lib.rt:43:9
 complete-requires : tie.Need-complete-requires

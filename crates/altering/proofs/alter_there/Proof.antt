@@ -3,8 +3,8 @@ use lib.ListN.{length}
 use native.Mathlib.Omega.{arith}
 use Prim.Native.Nat.{_+_}
 use Rattle.altering.proofs.Altering.{amount-refused, debit-alters, credit-alters}
-use Rattle.altering.proofs.Exchange.{comes-as}
-use Rattle.kinds.specs.Codes.{carries}
+use Rattle.sides.proofs.ExchangeLaws.{comes-as}
+use Rattle.codes.specs.Codes.{carries}
 use borrow.Author.Tests.{not-true, not-false}
 use mathlib.Core.Path.{sym, _∙_, ap}
 use borrow.Author.Needs.{needs}
@@ -14,11 +14,11 @@ use Rattle.altering.proofs.alter_there.Reads as reads
 use Rattle.altering.proofs.alter_there.Lts as lts
 use Rattle.finding.proofs.find.locate.Reads as locate-reads
 use Rattle.finding.proofs.refused.Reads as refused-reads
-use Rattle.altering.proofs.side.credits.Reads as credits-reads
-use Rattle.altering.proofs.side.debits.Reads as debits-reads
-use Rattle.altering.proofs.side.entry_said.Reads as entry-said-reads
-use Rattle.altering.proofs.side.exchange.Reads as exchange-reads
-use Rattle.kinds.proofs.codes.carries.Reads as carries-reads
+use Rattle.sides.proofs.credits.Reads as credits-reads
+use Rattle.sides.proofs.debits.Reads as debits-reads
+use Rattle.sides.proofs.entry_said.Reads as entry-said-reads
+use Rattle.sides.proofs.exchange.Reads as exchange-reads
+use Rattle.codes.proofs.carries.Reads as carries-reads
 
 -- src/lib.rt:22:9
 locate-requires : tie.Need-locate-requires

@@ -1,7 +1,7 @@
 use Rattle.exporting.proofs.LineLaws.{lines-exported, export-stands}
 use Rattle.exporting.specs.Export.{exported}
 use Rattle.writing.proofs.WriteLaws.{shape-right, judged-refused, no-room, granted}
-use Rattle.writing.proofs.PassLaws.{right}
+use Rattle.passing.proofs.PassLaws.{right}
 use Rattle.writing.specs.Judge.{writable}
 use Rattle.forming.proofs.ShapeLaws.{size-by}
 use lib.ListN.{length}

@@ -6,8 +6,8 @@ use Rattle.exporting.proofs.line_size.Statement.{statement}
 use Rattle.exporting.proofs.line_size.Tie as tie
 use Rattle.exporting.proofs.line_size.Reads as reads
 use Rattle.exporting.proofs.line_size.Lts as lts
-use Rattle.exporting.proofs.field.amount_size.Reads as amount-size-reads
-use Rattle.exporting.proofs.field.text_size.Reads as text-size-reads
+use Rattle.quoting.proofs.amount_size.Reads as amount-size-reads
+use Rattle.quoting.proofs.text_size.Reads as text-size-reads
 
 -- src/lib.rt:22:34
 sub-text-size : tie.Need-sub-text-size

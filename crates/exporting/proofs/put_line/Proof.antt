@@ -1,7 +1,7 @@
 use Rattle.exporting.proofs.LineLaws.{line-pieces}
-use Rattle.exporting.proofs.FieldLaws.{room-as, puts-as}
-use Rattle.exporting.specs.Export.{trimmed, quoted, amountText}
-use Rattle.reading.proofs.Writing.{puts-long, puts-both, room-front, room-rest}
+use Rattle.quoting.proofs.FieldLaws.{room-as, puts-as}
+use Rattle.quoting.specs.Quoting.{trimmed, quoted, amountText}
+use Rattle.putting.proofs.Writing.{puts-long, puts-both, room-front, room-rest}
 use lib.ListN.{length, take, drop, length-take, length-drop}
 use mathlib.Core.List.{[], _∷_, _++_}
 use mathlib.Core.Path.{_≡_}
@@ -11,9 +11,9 @@ use Rattle.exporting.proofs.put_line.Statement.{statement}
 use Rattle.exporting.proofs.put_line.Tie as tie
 use Rattle.exporting.proofs.put_line.Reads as reads
 use Rattle.exporting.proofs.put_line.Lts as lts
-use Rattle.exporting.proofs.field.put.Reads as put-reads
-use Rattle.exporting.proofs.field.put_amount.Reads as put-amount-reads
-use Rattle.exporting.proofs.field.put_text.Reads as put-text-reads
+use Rattle.quoting.proofs.put.Reads as put-reads
+use Rattle.quoting.proofs.put_amount.Reads as put-amount-reads
+use Rattle.quoting.proofs.put_text.Reads as put-text-reads
 
 -- src/lib.rt:36:35
 sub-put-text : tie.Need-sub-put-text

@@ -1,6 +1,6 @@
 use Rattle.exporting.proofs.LineLaws.{lines-next, lines-none, row-long}
 use Rattle.exporting.specs.Export.{lineOfRow, linesAt}
-use Rattle.reading.proofs.Writing.{Left, left-start, left-long, left-end, left-room, left-next}
+use Rattle.putting.proofs.Writing.{Left, left-start, left-long, left-end, left-room, left-next}
 use lib.ListN.{length, take, drop}
 use mathlib.Core.Path.{_≡_}
 use native.Mathlib.Omega.{arith}

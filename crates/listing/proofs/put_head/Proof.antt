@@ -1,5 +1,5 @@
 use Rattle.listing.specs.Parts.{frontBytes, batchBytes}
-use Rattle.reading.proofs.Writing.{puts-both, room-front, room-rest}
+use Rattle.putting.proofs.Writing.{puts-both, room-front, room-rest}
 use Rattle.text.specs.Decimal.{render}
 use lib.ListN.{take}
 use mathlib.Core.List.{_++_}
@@ -9,8 +9,8 @@ use Rattle.listing.proofs.put_head.Statement.{statement}
 use Rattle.listing.proofs.put_head.Tie as tie
 use Rattle.listing.proofs.put_head.Reads as reads
 use Rattle.listing.proofs.put_head.Lts as lts
-use Rattle.reading.proofs.put_count.Reads as put-count-reads
-use Rattle.reading.proofs.put_part.Reads as put-part-reads
+use Rattle.putting.proofs.put_count.Reads as put-count-reads
+use Rattle.putting.proofs.put_part.Reads as put-part-reads
 
 -- src/lib.rt:51:9
 put-count-requires : tie.Need-put-count-requires

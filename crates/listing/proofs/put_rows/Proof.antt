@@ -1,9 +1,9 @@
 use Rattle.listing.proofs.PutLaws.{size-here, long-here, row-room, row-next}
 use Rattle.listing.proofs.WalkLaws.{to-here, Walked, walked-start, number-small, passed-here, line-fits, walked-next, rows-none}
 use Rattle.listing.specs.Parts.{rowsBytes}
-use Rattle.reading.proofs.Writing.{Left, left-start, left-long, left-end}
+use Rattle.putting.proofs.Writing.{Left, left-start, left-long, left-end}
 use Rattle.comma.specs.Entries.{lineVerdict}
-use Rattle.comma.specs.Grammar.{linesIn}
+use Rattle.cells.specs.Grammar.{linesIn}
 use Rattle.records.specs.declared.Verdict.{Verdict}
 use lib.ListN.{length, drop}
 use mathlib.Core.Path.{_≡_}
@@ -16,7 +16,7 @@ use Rattle.listing.proofs.put_rows.Tie as tie
 use Rattle.listing.proofs.put_rows.Reads as reads
 use Rattle.listing.proofs.put_rows.Lts as lts
 use Rattle.comma.proofs.entries.placed.Reads as placed-reads
-use Rattle.reading.proofs.put_part.Reads as put-part-reads
+use Rattle.putting.proofs.put_part.Reads as put-part-reads
 
 abbrev Inv-loop : tie.InvT-loop
 Inv-loop bank lines table₀ start to₀ number₀ at₀ table to number at = Walked lines number at × Left (rowsBytes bank number (linesIn (drop at lines))) (rowsBytes bank 1 (linesIn lines)) table₀ table start to

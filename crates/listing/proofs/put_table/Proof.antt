@@ -1,9 +1,9 @@
 use Rattle.listing.proofs.PutLaws.{table-room, table-put}
 use Rattle.listing.proofs.TableLaws.{bank-long}
 use Rattle.listing.specs.Parts.{headBytes, rowsBytes}
-use Rattle.reading.proofs.Writing.{room-front, room-rest}
+use Rattle.putting.proofs.Writing.{room-front, room-rest}
 use Rattle.comma.specs.Import.{bankIn}
-use Rattle.comma.specs.Grammar.{linesIn}
+use Rattle.cells.specs.Grammar.{linesIn}
 use Rattle.text.specs.Decimal.{render}
 use mathlib.Core.List.{_++_}
 use borrow.Author.Needs.{needs}
@@ -13,7 +13,7 @@ use Rattle.listing.proofs.put_table.Reads as reads
 use Rattle.listing.proofs.put_table.Lts as lts
 use Rattle.listing.proofs.put_head.Reads as put-head-reads
 use Rattle.listing.proofs.put_rows.Reads as put-rows-reads
-use Rattle.reading.proofs.put_count.Reads as put-count-reads
+use Rattle.putting.proofs.put_count.Reads as put-count-reads
 
 -- src/lib.rt:82:9
 put-head-requires : tie.Need-put-head-requires

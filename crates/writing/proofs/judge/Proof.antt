@@ -8,8 +8,8 @@ use Rattle.writing.proofs.judge.Tie as tie
 use Rattle.writing.proofs.judge.Reads as reads
 use Rattle.writing.proofs.judge.Lts as lts
 use Rattle.forming.proofs.shape.shaped.Reads as shaped-reads
-use Rattle.writing.proofs.pass.judged.Reads as judged-reads
-use Rattle.writing.proofs.pass.refused.Reads as refused-reads
+use Rattle.passing.proofs.judged.Reads as judged-reads
+use Rattle.passing.proofs.refused.Reads as refused-reads
 use Rattle.writing.proofs.records_in.Reads as records-in-reads
 
 -- src/lib.rt:45:9

@@ -1,4 +1,4 @@
-use Rattle.writing.proofs.PassLaws.{right, records-count}
+use Rattle.passing.proofs.PassLaws.{right, records-count}
 use Rattle.view.specs.Table.{countOf, batchPart, entryPart, addendumPart}
 use Prim.Native.Nat.{_+_, _*_}
 use mathlib.Core.Path.{_≡_}

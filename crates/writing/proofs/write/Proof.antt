@@ -13,8 +13,8 @@ use Rattle.writing.proofs.write.Reads as reads
 use Rattle.writing.proofs.write.Lts as lts
 use Rattle.layout.proofs.record_bytes.Reads as record-bytes-reads
 use Rattle.writing.proofs.judge.Reads as judge-reads
-use Rattle.writing.proofs.pass.put_formed.Reads as put-formed-reads
-use Rattle.writing.proofs.pass.refused.Reads as refused-reads
+use Rattle.passing.proofs.put_formed.Reads as put-formed-reads
+use Rattle.passing.proofs.refused.Reads as refused-reads
 use Rattle.writing.proofs.records_in.Reads as records-in-reads
 
 -- src/lib.rt:59:39

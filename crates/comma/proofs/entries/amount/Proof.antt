@@ -1,5 +1,5 @@
 use Rattle.comma.proofs.AmountLaws.{front-cut, cents-small, amount-short, amount-front, amount-point, amount-back, amount-over, amount-fits, cents-by, over-by, within-by}
-use Rattle.comma.proofs.CellLaws.{rest-of}
+use Rattle.cells.proofs.CellLaws.{rest-of}
 use Rattle.text.specs.Decimal.{digits, value}
 use lib.ListN.{length, take, drop}
 use mathlib.Core.Bool.{true, false, false≢true}

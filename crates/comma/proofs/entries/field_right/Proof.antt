@@ -6,7 +6,7 @@ use Rattle.comma.proofs.entries.field_right.Statement.{statement}
 use Rattle.comma.proofs.entries.field_right.Tie as tie
 use Rattle.comma.proofs.entries.field_right.Reads as reads
 use Rattle.comma.proofs.entries.field_right.Lts as lts
-use Rattle.comma.proofs.cells.text_size.Reads as text-size-reads
+use Rattle.cells.proofs.text_size.Reads as text-size-reads
 use Rattle.comma.proofs.entries.amount.Reads as amount-reads
 use Rattle.comma.proofs.entries.field_wide.Reads as field-wide-reads
 

@@ -1,6 +1,6 @@
 use Rattle.comma.proofs.EntryLaws.{right-step, stop-of, text-of, verdict-right, verdict-wrong, last-right, last-wrong, at-six}
 use Rattle.comma.specs.Entries.{fieldRight, fieldFault, textsVerdict}
-use Rattle.comma.specs.Grammar.{fieldsRight, textsFrom, sixTexts, stopFrom}
+use Rattle.cells.specs.Grammar.{fieldsRight, textsFrom, sixTexts, stopFrom}
 use Rattle.records.specs.declared.Verdict.{Verdict}
 use lib.ListN.{length}
 use lib.Dec.{lit≤}
@@ -15,8 +15,8 @@ use Rattle.comma.proofs.entries.fields_verdict.Statement.{statement}
 use Rattle.comma.proofs.entries.fields_verdict.Tie as tie
 use Rattle.comma.proofs.entries.fields_verdict.Reads as reads
 use Rattle.comma.proofs.entries.fields_verdict.Lts as lts
-use Rattle.comma.proofs.cells.cell_at.Reads as cell-at-reads
-use Rattle.comma.proofs.cells.inner.Reads as inner-reads
+use Rattle.cells.proofs.cell_at.Reads as cell-at-reads
+use Rattle.cells.proofs.inner.Reads as inner-reads
 use Rattle.comma.proofs.entries.field_fault.Reads as field-fault-reads
 use Rattle.comma.proofs.entries.field_right.Reads as field-right-reads
 

@@ -1,6 +1,6 @@
 use Rattle.comma.proofs.EntryLaws.{line-passed, right-step, stop-of, verdict-passed, right-of, last-of, row-step, row-last, six-of, at-six, row-made}
 use Rattle.comma.specs.Entries.{fieldRight, textsVerdict, allColumns, columnAt}
-use Rattle.comma.specs.Grammar.{fieldsRight, textsFrom, sixTexts, stopFrom, lastStop, sizeBy, breakAt}
+use Rattle.cells.specs.Grammar.{fieldsRight, textsFrom, sixTexts, stopFrom, lastStop, sizeBy, breakAt}
 use Rattle.records.specs.declared.Verdict.{Verdict}
 use Rattle.text.specs.Rows.{joined}
 use lib.Seq.{sets}
@@ -16,9 +16,9 @@ use Rattle.comma.proofs.entries.placed.Statement.{statement}
 use Rattle.comma.proofs.entries.placed.Tie as tie
 use Rattle.comma.proofs.entries.placed.Reads as reads
 use Rattle.comma.proofs.entries.placed.Lts as lts
-use Rattle.comma.proofs.cells.cell_at.Reads as cell-at-reads
-use Rattle.comma.proofs.cells.inner.Reads as inner-reads
-use Rattle.comma.proofs.cells.line_end.Reads as line-end-reads
+use Rattle.cells.proofs.cell_at.Reads as cell-at-reads
+use Rattle.cells.proofs.inner.Reads as inner-reads
+use Rattle.cells.proofs.line_end.Reads as line-end-reads
 use Rattle.comma.proofs.entries.empty_row.Reads as empty-row-reads
 use Rattle.comma.proofs.entries.put_field.Reads as put-field-reads
 

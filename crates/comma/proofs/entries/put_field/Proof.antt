@@ -1,5 +1,5 @@
 use mathlib.Core.Bool.{false}
-use Rattle.comma.specs.Grammar.{undoubled}
+use Rattle.cells.specs.Grammar.{undoubled}
 use Rattle.comma.proofs.EntryLaws.{amount-there, text-fits, amount-put, text-put, text-room, column-end}
 use Rattle.comma.proofs.EntryLaws.{amount-there, text-fits, amount-put, text-put, column-end}
 use native.Mathlib.Omega.{arith}
@@ -10,7 +10,7 @@ use Rattle.comma.proofs.entries.put_field.Statement.{statement}
 use Rattle.comma.proofs.entries.put_field.Tie as tie
 use Rattle.comma.proofs.entries.put_field.Reads as reads
 use Rattle.comma.proofs.entries.put_field.Lts as lts
-use Rattle.comma.proofs.cells.put_text.Reads as put-text-reads
+use Rattle.cells.proofs.put_text.Reads as put-text-reads
 use Rattle.comma.proofs.entries.amount.Reads as amount-reads
 use Rattle.comma.proofs.entries.column_at.Reads as column-at-reads
 use Rattle.comma.proofs.entries.field_wide.Reads as field-wide-reads

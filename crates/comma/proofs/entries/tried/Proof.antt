@@ -7,7 +7,7 @@ use Rattle.comma.proofs.entries.tried.Statement.{statement}
 use Rattle.comma.proofs.entries.tried.Tie as tie
 use Rattle.comma.proofs.entries.tried.Reads as reads
 use Rattle.comma.proofs.entries.tried.Lts as lts
-use Rattle.comma.proofs.cells.six_fields.Reads as six-fields-reads
+use Rattle.cells.proofs.six_fields.Reads as six-fields-reads
 use Rattle.comma.proofs.entries.fields_verdict.Reads as fields-verdict-reads
 
 -- src/entries.rt:155:9

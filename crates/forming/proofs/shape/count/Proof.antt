@@ -1,4 +1,4 @@
-use Rattle.records.proofs.Laws.{digits-small}
+use Rattle.tally.proofs.TallyLaws.{digits-small}
 use Rattle.text.specs.Decimal.{value}
 use lib.ListN.{take, drop}
 use mathlib.Core.Path.{_≡_}

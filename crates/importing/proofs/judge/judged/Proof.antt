@@ -2,12 +2,12 @@ use Rattle.importing.proofs.Judging.{begun-here, ahead-here, few-here, 
 use Rattle.importing.proofs.Along.{Along, along-first, batch-few, entry-few}
 use Rattle.listing.proofs.TableLaws.{bank-long}
 use Rattle.comma.specs.Import.{importTable}
-use Rattle.writing.proofs.PassLaws.{Walking, walking-on, passed-on, run-granted}
-use Rattle.writing.proofs.WalkLaws.{todo}
+use Rattle.passing.proofs.PassLaws.{Walking, walking-on, passed-on, run-granted}
+use Rattle.walking.proofs.WalkLaws.{todo}
 use Rattle.view.proofs.Ways.{bareRun}
 use Rattle.view.specs.Table.{formed}
 use Rattle.records.specs.Run.{checkedOf}
-use Rattle.records.specs.Fair.{Fair}
+use Rattle.tally.specs.Fair.{Fair}
 use Rattle.records.specs.declared.Stepped.{Stepped}
 use Rattle.layout.specs.declared.Way.{Way}
 use Rattle.layout.specs.declared.Checked.{Checked}
@@ -27,11 +27,11 @@ use Rattle.importing.proofs.walk.form.Reads as form-reads
 use Rattle.importing.proofs.walk.next_line.Reads as next-line-reads
 use Rattle.importing.proofs.walk.opened.Reads as opened-reads
 use Rattle.importing.proofs.walk.past.Reads as past-reads
-use Rattle.kinds.proofs.groups.table.Reads as table-reads
-use Rattle.records.proofs.order.complete.Reads as complete-reads
+use Rattle.groups.proofs.table.Reads as table-reads
+use Rattle.order.proofs.complete.Reads as complete-reads
 use Rattle.records.proofs.step.check.Reads as check-reads
-use Rattle.records.proofs.tally.start.Reads as start-reads
-use Rattle.writing.proofs.pass.refused.Reads as refused-reads
+use Rattle.tally.proofs.start.Reads as start-reads
+use Rattle.passing.proofs.refused.Reads as refused-reads
 
 abbrev Inv-loop : tie.InvT-loop
 Inv-loop filerow batchrow lines count groups c₀ st₀ at₀ number₀ c st at number = Walking (importTable filerow batchrow lines) c st × Fair st × (bareRun st (todo (importTable filerow batchrow lines) c st) ≡ checkedOf Way.Plain (formed Way.Plain (importTable filerow batchrow lines))) × Along lines count c at number

@@ -3,8 +3,8 @@ use Prim.Native.Nat.{_+_}
 use Rattle.comma.proofs.EntryLaws.{line-inside, line-passed}
 use Rattle.listing.proofs.TableLaws.{row-long}
 use Rattle.comma.specs.Entries.{rowOfLine}
-use Rattle.comma.specs.Grammar.{lineSize}
-use Rattle.comma.proofs.CellLaws.{rest-of}
+use Rattle.cells.specs.Grammar.{lineSize}
+use Rattle.cells.proofs.CellLaws.{rest-of}
 use mathlib.Core.Bool.{false≢true}
 use native.Mathlib.Omega.{arith}
 use mathlib.Core.Path.{refl, sym, _∙_, ap}

@@ -1,4 +1,4 @@
-use Rattle.kinds.proofs.GroupLaws.{digit-told, below}
+use Rattle.groups.proofs.GroupLaws.{digit-told, below}
 use Rattle.text.specs.Rows.{columns}
 use borrow.Author.Tests.{not-true, not-false}
 use mathlib.Core.Path.{refl}
@@ -7,7 +7,7 @@ use Rattle.kinds.proofs.own.destination.Statement.{statement}
 use Rattle.kinds.proofs.own.destination.Tie as tie
 use Rattle.kinds.proofs.own.destination.Reads as reads
 use Rattle.kinds.proofs.own.destination.Lts as lts
-use Rattle.kinds.proofs.groups.balanced.Reads as balanced-reads
+use Rattle.groups.proofs.balanced.Reads as balanced-reads
 use Rattle.kinds.proofs.texts.leads.Reads as leads-reads
 use Rattle.text.proofs.digits.Reads as digits-reads
 use Rattle.text.proofs.number.Reads as number-reads

@@ -8,9 +8,9 @@ use Rattle.records.proofs.quick.passes.Statement.{statement}
 use Rattle.records.proofs.quick.passes.Tie as tie
 use Rattle.records.proofs.quick.passes.Reads as reads
 use Rattle.records.proofs.quick.passes.Lts as lts
-use Rattle.rules.proofs.quick.addendum_all.Reads as addendum-all-reads
-use Rattle.rules.proofs.quick.entry_back.Reads as entry-back-reads
-use Rattle.rules.proofs.quick.entry_front.Reads as entry-front-reads
+use Rattle.shortcut.proofs.addendum_all.Reads as addendum-all-reads
+use Rattle.shortcut.proofs.entry_back.Reads as entry-back-reads
+use Rattle.shortcut.proofs.entry_front.Reads as entry-front-reads
 
 -- src/quick.rt:22:17
 enum-told : tie.Need-enum-told

@@ -4,9 +4,9 @@ use Rattle.records.proofs.step.check.Statement.{statement}
 use Rattle.records.proofs.step.check.Tie as tie
 use Rattle.records.proofs.step.check.Reads as reads
 use Rattle.records.proofs.step.check.Lts as lts
-use Rattle.records.proofs.order.line_at.Reads as line-at-reads
+use Rattle.order.proofs.line_at.Reads as line-at-reads
 use Rattle.records.proofs.step.fields.Reads as fields-reads
-use Rattle.records.proofs.tally.tally.Reads as tally-reads
+use Rattle.tally.proofs.tally.Reads as tally-reads
 
 -- src/step.rt:45:52
 shared-slice-read-line-at : tie.Need-shared-slice-read-line-at

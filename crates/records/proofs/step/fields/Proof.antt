@@ -15,7 +15,7 @@ use Rattle.layout.proofs.first_field.Reads as first-field-reads
 use Rattle.layout.proofs.rows_in.Reads as rows-in-reads
 use Rattle.records.proofs.quick.walk_from.Reads as walk-from-reads
 use Rattle.rules.proofs.field.field.Reads as field-reads
-use Rattle.rules.proofs.near.said.Reads as said-reads
+use Rattle.near.proofs.said.Reads as said-reads
 
 abbrev Inv-loop : tie.InvT-loop
 Inv-loop groups line sums header rec count number₀ k₀ number k = (k ≤ length (rowsOf line)) × (number ≤ k + 1) × (fieldsFrom number (drop k (rowsOf line)) sums header rec ≡ fieldsFrom (firstField line) (rowsOf line) sums header rec)

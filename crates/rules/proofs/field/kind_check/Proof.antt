@@ -20,7 +20,7 @@ use Rattle.kinds.proofs.texts.fixed.Reads as fixed-reads
 use Rattle.kinds.proofs.texts.mandatory_text.Reads as mandatory-text-reads
 use Rattle.kinds.proofs.texts.nine_filled.Reads as nine-filled-reads
 use Rattle.kinds.proofs.texts.optional_text.Reads as optional-text-reads
-use Rattle.rules.proofs.near.near.Reads as near-reads
+use Rattle.near.proofs.near.Reads as near-reads
 use Rattle.kinds.proofs.own.own.Reads as own-reads
 use Rattle.text.proofs.wide.Reads as wide-reads
 

@@ -1,0 +1,25 @@
+use mathlib.Core.Path.{refl}
+use borrow.Author.Needs.{needs}
+use Rattle.codes.proofs.use_carries.Statement.{statement}
+use Rattle.codes.proofs.use_carries.Tie as tie
+use Rattle.codes.proofs.use_carries.Reads as reads
+use Rattle.codes.proofs.use_carries.Lts as lts
+
+-- src/lib.rt:55:23
+enum-told : tie.Need-enum-told
+enum-told c = search needs
+
+-- src/lib.rt:56:25
+enum-told-2 : tie.Need-enum-told-2
+enum-told-2 c = search needs
+
+-- src/lib.rt:51:1
+returns : tie.Need-returns
+returns c = rw ((c .enum-told) .given .1) refl
+
+-- src/lib.rt:51:1
+returns-2 : tie.Need-returns-2
+returns-2 c = rw ((c .enum-told2) .given .1) refl
+
+pub use-carries-spec : {M : Type 1} → statement M
+use-carries-spec = tie.close (tie.spec enum-told enum-told-2 returns returns-2)

@@ -1,0 +1,68 @@
+use borrow.Author.Tests.{not-true, not-false}
+use mathlib.Core.Path.{refl}
+use borrow.Author.Needs.{needs}
+use Rattle.near.proofs.code_rule.Statement.{statement}
+use Rattle.near.proofs.code_rule.Tie as tie
+use Rattle.near.proofs.code_rule.Reads as reads
+use Rattle.near.proofs.code_rule.Lts as lts
+use Rattle.codes.proofs.allowed.Reads as allowed-reads
+use Rattle.codes.proofs.code_of.Reads as code-of-reads
+use Rattle.codes.proofs.known.Reads as known-reads
+use Rattle.near.proofs.batch_class.Reads as batch-class-reads
+use Rattle.text.proofs.digits.Reads as digits-reads
+use Rattle.text.proofs.number.Reads as number-reads
+
+-- src/lib.rt:91:9
+digits-requires : tie.Need-digits-requires
+digits-requires c κs = search needs
+
+-- src/lib.rt:72:9
+returns : tie.Need-returns
+returns c = rw (← c .before .digits .ensures, not-true (c .before .digits .result) (c .if1 .taken)) refl
+
+-- src/lib.rt:94:31
+number-requires : tie.Need-number-requires
+number-requires c κs = search needs
+
+-- src/lib.rt:94:9
+code-of-requires : tie.Need-code-of-requires
+code-of-requires c κs = search needs
+
+-- src/lib.rt:95:9
+known-requires : tie.Need-known-requires
+known-requires c κs = search needs
+
+-- src/lib.rt:96:9
+returns-2 : tie.Need-returns-2
+returns-2 c = rw (← c .before .before .before .before .before .digits .ensures, not-false (c .before .before .before .before .before .digits .result) (c .before .before .before .before .if1 .left), ← c .before .before .before .number .ensures, ← c .before .before .code-of .ensures, ← c .before .known .ensures, not-true (c .before .known .result) (c .if2 .taken)) refl
+
+-- src/lib.rt:98:24
+batch-class-requires : tie.Need-batch-class-requires
+batch-class-requires c κs = search needs
+
+-- src/lib.rt:98:9
+allowed-requires : tie.Need-allowed-requires
+allowed-requires c κs = search needs
+
+-- src/lib.rt:85:9
+returns-3 : tie.Need-returns-3
+returns-3 c = rw (← c .before .before .before .before .before .before .before .before .digits .ensures, not-false (c .before .before .before .before .before .before .before .before .digits .result) (c .before .before .before .before .before .before .before .if1 .left), ← c .before .before .before .before .before .before .number .ensures, ← c .before .before .before .before .before .code-of .ensures, ← c .before .before .before .before .known .ensures, not-false (c .before .before .before .before .known .result) (c .before .before .before .if2 .left), ← c .before .before .batch-class .ensures, ← c .before .allowed .ensures, not-true (c .before .allowed .result) (c .if3 .taken)) refl
+
+-- src/lib.rt:87:1
+returns-4 : tie.Need-returns-4
+returns-4 c = rw (← c .before .before .before .before .before .before .before .before .digits .ensures, not-false (c .before .before .before .before .before .before .before .before .digits .result) (c .before .before .before .before .before .before .before .if1 .left), ← c .before .before .before .before .before .before .number .ensures, ← c .before .before .before .before .before .code-of .ensures, ← c .before .before .before .before .known .ensures, not-false (c .before .before .before .before .known .result) (c .before .before .before .if2 .left), ← c .before .before .batch-class .ensures, ← c .before .allowed .ensures, not-false (c .before .allowed .result) (c .if3 .left)) refl
+
+pub code-rule-spec : {M : Type 1} → statement M
+code-rule-spec =
+    tie.close
+    (tie.spec
+    digits-requires
+    returns
+    number-requires
+    code-of-requires
+    known-requires
+    returns-2
+    batch-class-requires
+    allowed-requires
+    returns-3
+    returns-4)

@@ -1,0 +1,2 @@
+pub mod ExchangeLaws
+pub mod Signed
