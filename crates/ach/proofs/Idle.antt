@@ -3,7 +3,7 @@
 use mathlib.Core.Path.{_≡_, sym, ap, _∙_}
 use mathlib.Core.Logic.{_≢_}
 use mathlib.Core.List.{List, [], _∷_}
-use Prim.Native.Nat.{ℕ, _+_, _*_, _≤_}
+use Prim.Native.Nat.{ℕ, _+_, _*_, _≤_, _<_}
 use native.Mathlib.Omega.{arith}
 use lib.ListN.{length, getD, take}
 use Rattle.text.specs.Decimal.{render}
@@ -19,8 +19,10 @@ use Rattle.view.specs.Outcome.{refusal, entryAt}
 use Rattle.view.proofs.RoundTrips.{read-done}
 use Rattle.view.proofs.Whole.{whole, whole-accepted}
 use Rattle.view.proofs.Across.{two, across}
-use Rattle.ach.specs.Contracts.{Checks, Reads, Alters, Run}
+use Rattle.without.proofs.Left.{some-distinct}
+use Rattle.ach.specs.Contracts.{Checks, Reads, Alters, TakesOut, Run}
 use Rattle.ach.proofs.Demands.{permitted}
+use Rattle.ach.proofs.Recalls.{recall-entries}
 use Rattle.ach.proofs.Grants.{alter-amount, done}
 use Rattle.layout.specs.declared.Way.{Way}
 
@@ -55,6 +57,11 @@ pub alteration-does-something : (way : Way) (f left : List ℕ) (k a : ℕ) (r :
     → a ≢ amountOf (entryAt (viewOf way f) k) → left ≢ f
 alteration-does-something way f left k a r p g d e =
     d (sym (alter-amount way f k a (rw (← p .0) g)) ∙ ap (λ x. amountOf (entryAt (viewOf way x) k)) (sym (p .1) ∙ e))
+
+-- a taking out that takes nothing: a list that is granted and not empty leaves fewer entries than there were
+pub taking-out-does-something : (way : Way) (f ns left : List ℕ) (n : ℕ) (c d : Checked) (r : Made) → Checks way f c → TakesOut way f (n ∷ ns) r left → r .answer ≡ Answer.Granted
+    → Checks way (take (r .length) left) d → d .entries < c .entries
+taking-out-does-something way f ns left n c d r q p g u = omega (arith, some-distinct n ns, recall-entries way f (n ∷ ns) left c r q p g d u)
 
 -- the first of a run only, or the refused one too: of these three the last is refused, and both others stand
 pub not-first-of-a-run-only : (g : List ℕ) → Run Way.Plain ((3, 1001) ∷ (1, 101) ∷ (1, 0) ∷ []) (fileOf Way.Plain (two 100 1000)) g → (g ≡ fileOf Way.Plain (two 101 1001)) × (g ≢ fileOf Way.Plain (two 100 1001))

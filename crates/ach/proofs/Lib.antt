@@ -3,6 +3,7 @@ pub mod Bounds
 pub mod First
 pub mod Grants
 pub mod Demands
+pub mod Recalls
 pub mod Idle
 pub mod FieldBack
 pub mod LineBack

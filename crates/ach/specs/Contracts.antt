@@ -14,6 +14,7 @@ use Rattle.records.specs.Run.{checkedOf}
 use Rattle.comma.specs.Import.{importOf}
 use Rattle.exporting.specs.Export.{exportOf}
 use Rattle.view.specs.Outcome.{readOf, writeOf, alterOf, addendumAnswer, addendumOf}
+use Rattle.without.specs.Without.{takeOutOf}
 
 -- check: the file f answered with r
 abbrev pub Checks : Way → List ℕ → Checked → Type 0
@@ -30,6 +31,10 @@ Writes way t held r left = (r ≡ writeOf way t held .gives) × (left ≡ writeO
 -- alter: a lent file that held f and then holds `left`, its entry k and the new amount
 abbrev pub Alters : Way → List ℕ → ℕ → ℕ → Altered → List ℕ → Type 0
 Alters way f k amount r left = (r ≡ alterOf way f k amount .gives) × (left ≡ alterOf way f k amount .leaves)
+
+-- taking out: a lent file that held f and then holds `left`, and the list of entry numbers, which is lent to be read
+abbrev pub TakesOut : Way → List ℕ → List ℕ → Made → List ℕ → Type 0
+TakesOut way f ns r left = (r ≡ takeOutOf way f ns .gives) × (left ≡ takeOutOf way f ns .leaves)
 
 -- import: the two rows and the lines of a list, and a lent table that held `held` and then holds `left`
 abbrev pub Imports : List ℕ → List ℕ → List ℕ → List ℕ → Made → List ℕ → Type 0

@@ -278,7 +278,8 @@ alter-same way f k g x =
 
 -- ---- one call after another
 
-same-test : (s t : Bool) → (s ≡ true → t ≡ true) → (t ≡ true → s ≡ true) → s ≡ t
+-- two tests that hold together are one
+pub same-test : (s t : Bool) → (s ≡ true → t ≡ true) → (t ≡ true → s ≡ true) → s ≡ t
 same-test true t f g = sym (f refl)
 same-test false true f g = g refl
 same-test false false f g = refl

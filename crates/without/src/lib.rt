@@ -1,0 +1,1 @@
+// Recalled payments taken out: definitions and their theorems, with no code of its own.
