@@ -60,6 +60,21 @@ use-small Use.Prenote amount e = omega (arith, eqb-true amount 0 e)
 
 -- ---- one side
 
+-- an amount put in: the totals of g in the batch and in the file lose the old amount and gain the new one
+abbrev Moves : Way → List ℕ → ℕ → ℕ → (Entry → ℕ) → Type 0
+Moves way f k amount g =
+    (sumOver g (spotOf (amend (viewOf way f) k amount) k .batch .entries) + amountOf (entryAt (viewOf way f) k) ≡ sumOver g (spotOf (viewOf way f) k .batch .entries) + amount)
+    × (sumOver g (entriesOf (amend (viewOf way f) k amount)) + amountOf (entryAt (viewOf way f) k) ≡ sumOver g (entriesOf (viewOf way f)) + amount)
+
+-- the altered file, by three texts put into the old one
+abbrev Puts : Way → List ℕ → ℕ → ℕ → Side → (Entry → ℕ) → Type 0
+Puts way f k amount s g =
+    fileOf way (amend (viewOf way f) k amount)
+    ≡ sets (sets (sets (fileOf way (viewOf way f))
+    (recordBytes way * (entryNumber (spotOf (viewOf way f) k) - 1) + 29) (render 10 amount))
+    (recordBytes way * (batchControlNumber (spotOf (viewOf way f) k) - 1) + s .batchat) (render 12 (sumOver g (spotOf (amend (viewOf way f) k amount) k .batch .entries))))
+    (recordBytes way * (fileControlNumber (viewOf way f) - 1) + s .fileat) (render 12 (sumOver g (entriesOf (amend (viewOf way f) k amount))))
+
 -- what an alteration relies on of the side that sums g: the batch's total is written in its control, the old amount is in both totals and
 -- moves out of them, and three texts change
 record Sided (way : Way) (f : List ℕ) (k amount : ℕ) (p : Places) (s : Side) (g : Entry → ℕ) : Type 0 where
@@ -69,14 +84,8 @@ record Sided (way : Way) (f : List ℕ) (k amount : ℕ) (p : Places) (s : Side)
   inbatch : amountOf (entryAt (viewOf way f) k) ≤ sumOver g (spotOf (viewOf way f) k .batch .entries)
   most : sumOver g (entriesOf (viewOf way f)) ≤ totalLimit
   inpart : sumOver g (spotOf (viewOf way f) k .batch .entries) ≤ sumOver g (entriesOf (viewOf way f))
-  batch : sumOver g (spotOf (amend (viewOf way f) k amount) k .batch .entries) + amountOf (entryAt (viewOf way f) k)
-      ≡ sumOver g (spotOf (viewOf way f) k .batch .entries) + amount
-  whole : sumOver g (entriesOf (amend (viewOf way f) k amount)) + amountOf (entryAt (viewOf way f) k) ≡ sumOver g (entriesOf (viewOf way f)) + amount
-  put : fileOf way (amend (viewOf way f) k amount)
-      ≡ sets (sets (sets (fileOf way (viewOf way f))
-      (recordBytes way * (entryNumber (spotOf (viewOf way f) k) - 1) + 29) (render 10 amount))
-      (recordBytes way * (batchControlNumber (spotOf (viewOf way f) k) - 1) + s .batchat) (render 12 (sumOver g (spotOf (amend (viewOf way f) k amount) k .batch .entries))))
-      (recordBytes way * (fileControlNumber (viewOf way f) - 1) + s .fileat) (render 12 (sumOver g (entriesOf (amend (viewOf way f) k amount))))
+  moves : Moves way f k amount g
+  put : Puts way f k amount s g
 
 -- the same three texts, by equal numbers
 three-same : {f g : List ℕ} {a a′ b b′ c c′ y y′ z z′ : ℕ} (x : ℕ) → f ≡ g → a ≡ a′ → b ≡ b′ → c ≡ c′ → y ≡ y′ → z ≡ z′
@@ -134,7 +143,7 @@ module _ (way : Way) (f : List ℕ) (k amount : ℕ) (t : There way f k) (p : Pl
         ≡ fileOf way (amend (viewOf way f) k amount)
     side-put =
         sym (d .put ∙ three-same amount (sym (accepted-view way f (t .accepted) .form)) (same (entryNumber (spotOf (viewOf way f) k)) (p .entry) 29 (at .entry)) (same (batchControlNumber (spotOf (viewOf way f) k)) (p .control) (s .batchat) (at .control)) (same (fileControlNumber (viewOf way f)) (p .last) (s .fileat) (at .last))
-        (omega (arith, d .batch, d .text, d .inbatch)) (omega (arith, d .whole, d .inbatch, d .inpart)))
+        (omega (arith, d .moves .0, d .text, d .inbatch)) (omega (arith, d .moves .1, d .inbatch, d .inpart)))
 
     side-alters : (code : Code) → codeOf (codeIn (entryAt (viewOf way f) k)) ≡ code → carries code amount ≡ true
         → limits (viewOf way f) (spotOf (viewOf way f) k) code (amountOf (entryAt (viewOf way f) k)) amount
@@ -153,41 +162,37 @@ module _ (way : Way) (f : List ℕ) (k amount : ℕ) (t : There way f k) (p : Pl
   controls : BatchControlFields (spotOf (viewOf way f) k .batch)
   controls = batch-control-fields (spotOf (viewOf way f) k .batch) (spot-sized (viewOf way f) k 0 sized (t .first) (t .last) (lit< tt) .long)
 
+  -- one side that sums g: its total is a field of the batch's control, and an amount put in moves in the batch and in the file
+  sided : (s : Side) (g : Entry → ℕ) → s .batchat + 12 ≤ 94 → s .fileat + 12 ≤ 94 → sumOver g (entriesOf (viewOf way f)) ≤ totalLimit
+      → take 12 (drop (s .batchat) (batchControlRecord (spotOf (viewOf way f) k .batch))) ≡ render 12 (sumOver g (spotOf (viewOf way f) k .batch .entries))
+      → ((a : ℕ) → a < 10000000000 → Moves way f k a g) → Puts way f k amount s g → amount < 10000000000 → Sided way f k amount p s g
+  sided s g batchat fileat most control moves put h =
+      let w = viewOf way f in
+      let inpart = batch-part w k (t .first) (t .last) g in
+      record {
+        batchat = batchat;
+        fileat = fileat;
+        text = ap value (total-text way f k t p at (s .batchat) batchat ∙ control) ∙ value-render-lt 12 (sumOver g (spotOf w k .batch .entries)) (omega (arith, inpart, most));
+        inbatch = omega (arith, moves 0 (lit< tt) .0);
+        most = most;
+        inpart = inpart;
+        moves = moves amount h;
+        put = put;
+      }
+
   debit-sided : (u : Use) → codeOf (codeIn (entryAt (viewOf way f) k)) ≡ Code.Debit u → amount < 10000000000 → Sided way f k amount p debitSide debitOf
   debit-sided u c h =
       let w = viewOf way f in
-      let es = spotOf w k .batch .entries in
-      let most = accepted-view way f (t .accepted) .keeps .within .debit in
-      let inpart = batch-part w k (t .first) (t .last) debitOf in
-      record {
-        batchat = lit≤ tt;
-        fileat = lit≤ tt;
-        text = ap value (total-text way f k t p at 20 (lit≤ tt) ∙ controls .debit) ∙ value-render-lt 12 (sumOver debitOf es) (omega (arith, inpart, most));
-        inbatch = omega (arith, debit-moved (batch-moved w k 0 sized (t .first) (t .last) (lit< tt)) u c .0);
-        most = most;
-        inpart = inpart;
-        batch = debit-moved (batch-moved w k amount sized (t .first) (t .last) h) u c .0;
-        whole = debit-moved (file-moved w k amount sized (t .first) (t .last) h) u c .0;
-        put = file-amended-debit w k amount sized (t .first) (t .last) h way u c;
-      }
+      sided debitSide debitOf (lit≤ tt) (lit≤ tt) (accepted-view way f (t .accepted) .keeps .within .debit) (controls .debit)
+      (λ a g. (debit-moved (batch-moved w k a sized (t .first) (t .last) g) u c .0, debit-moved (file-moved w k a sized (t .first) (t .last) g) u c .0))
+      (file-amended-debit w k amount sized (t .first) (t .last) h way u c) h
 
   credit-sided : (u : Use) → codeOf (codeIn (entryAt (viewOf way f) k)) ≡ Code.Credit u → amount < 10000000000 → Sided way f k amount p creditSide creditOf
   credit-sided u c h =
       let w = viewOf way f in
-      let es = spotOf w k .batch .entries in
-      let most = accepted-view way f (t .accepted) .keeps .within .credit in
-      let inpart = batch-part w k (t .first) (t .last) creditOf in
-      record {
-        batchat = lit≤ tt;
-        fileat = lit≤ tt;
-        text = ap value (total-text way f k t p at 32 (lit≤ tt) ∙ controls .credit) ∙ value-render-lt 12 (sumOver creditOf es) (omega (arith, inpart, most));
-        inbatch = omega (arith, credit-moved (batch-moved w k 0 sized (t .first) (t .last) (lit< tt)) u c .1);
-        most = most;
-        inpart = inpart;
-        batch = credit-moved (batch-moved w k amount sized (t .first) (t .last) h) u c .1;
-        whole = credit-moved (file-moved w k amount sized (t .first) (t .last) h) u c .1;
-        put = file-amended-credit w k amount sized (t .first) (t .last) h way u c;
-      }
+      sided creditSide creditOf (lit≤ tt) (lit≤ tt) (accepted-view way f (t .accepted) .keeps .within .credit) (controls .credit)
+      (λ a g. (credit-moved (batch-moved w k a sized (t .first) (t .last) g) u c .1, credit-moved (file-moved w k a sized (t .first) (t .last) g) u c .1))
+      (file-amended-credit w k amount sized (t .first) (t .last) h way u c) h
 
   -- an amount that the code carries is exchanged on the code's side: that can be done, and is the alteration
   abbrev pub Alters : Side → ℕ → ℕ → Type 0
