@@ -44,6 +44,7 @@ use Rattle.cells.specs.Grammar.{linesIn, sixFields, sixTexts}
 use Rattle.comma.specs.Entries.{fieldRight, fieldFault, try, textsVerdict, lineVerdict}
 use Rattle.comma.specs.Import.{lineAnswer, linesAnswer, importTable, rowsFit, importAnswer, importOf}
 use Rattle.comma.proofs.EntryLaws.{texts-many, lines-count}
+use Rattle.without.specs.Without.{without, allExist, takeOutAnswer, shortened, takeOutOf}
 use Rattle.writing.specs.Judge.{writable}
 use Rattle.exporting.specs.Export.{exported, exportOf}
 
@@ -187,6 +188,10 @@ low-altered : (x : Answer) (d : ℤ) (result f : List ℕ) → Low x → Low (al
 low-altered Answer.Granted d result f l = tt
 low-altered (Answer.Refused x) d result f l = l
 
+low-shortened : (x : Answer) (result f : List ℕ) → Low x → Low (shortened x result f .gives .answer)
+low-shortened Answer.Granted result f l = tt
+low-shortened (Answer.Refused x) result f l = l
+
 low-room : (result buffer : List ℕ) → Low (room result buffer)
 low-room result buffer = low-demand (leb (length result) (length buffer)) (refusal Fault.Room 0 0) Answer.Granted (low-whole Fault.Room) λ e. tt
 
@@ -234,6 +239,16 @@ alter-low way f k a =
     let fits = accepted-view way f g .keeps .fits in
     low-demand (carries c a) amount last (record { field = lit≤ tt; number = omega (arith, order .0, order .1, order .2, fits) })
     λ y. limits-low v (spotOf v k) c (amountOf (entryAt v k)) a (omega (arith, order .1, order .2, fits)) (omega (arith, order .2, fits)))
+
+pub recall-low : (way : Way) (f ns : List ℕ) → Low (takeOutOf way f ns .gives .answer)
+recall-low way f ns =
+    let v = viewOf way f in
+    let left = leb 1 (length (entriesOf (without v ns))) in
+    let none = refusal Fault.NoneLeft 0 0 in
+    low-shortened (takeOutAnswer way f ns) (fileOf way (without v ns)) f
+    (low-then (checkedOf way f .answer) (demand (allExist v ns) (refusal Fault.NoEntry 0 0) (demand left none Answer.Granted)) (check-low way f)
+    λ g. low-demand (allExist v ns) (refusal Fault.NoEntry 0 0) (demand left none Answer.Granted) (low-whole Fault.NoEntry)
+    λ x. low-demand left none Answer.Granted (low-whole Fault.NoneLeft) λ y. tt)
 
 -- ---- client lists
 

@@ -5,7 +5,7 @@ use layout::Checked;
 use layout::EntryNo;
 use layout::Made;
 use layout::Way;
-ghost use Rattle.ach.specs.Contracts.{Checks, Reads, Writes, Alters, Imports, Exports, HandsOut, Explains, Spans};
+ghost use Rattle.ach.specs.Contracts.{Checks, Reads, Writes, Alters, TakesOut, Imports, Exports, HandsOut, Explains, Spans};
 
 // A file is accepted exactly if it keeps the rules; else the first refusal is named.
 pub fn check(way: Way, file: &[u8]) -> Checked
@@ -33,6 +33,13 @@ pub fn alter(way: Way, file: &mut [u8], entry: EntryNo, amount: u64) -> Altered
     ensures { λ r. ⌜ Alters way (now (file .entry)) (entry .0) amount r (now (file .exit)) ⌝ }
 {
     altering::alter(way, file, entry, amount)
+}
+
+// The entries of a list taken out in place, with their addenda; the freed bytes become blanks.
+pub fn take_out(way: Way, file: &mut [u8], entries: &[u64]) -> Made
+    ensures { λ r. ⌜ TakesOut way (now (file .entry)) (now (entries .entry)) r (now (file .exit)) ⌝ }
+{
+    recalling::take_out(way, file, entries)
 }
 
 // The pay table of a client's comma lines, with the given rows for file and batch, written to the front of the lent table.

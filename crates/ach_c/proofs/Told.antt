@@ -10,11 +10,12 @@ use Rattle.layout.specs.declared.Answer.{Answer}
 use Rattle.layout.specs.Paper.{paperOf}
 use Rattle.records.specs.Run.{checkedOf}
 use Rattle.view.specs.Outcome.{readOf, writeOf, alterOf, addendumAnswer}
+use Rattle.without.specs.Without.{takeOutOf}
 use Rattle.comma.specs.Import.{importOf}
 use Rattle.exporting.specs.Export.{exportOf}
 use Rattle.view.proofs.Answers.{not-granted}
 use Rattle.layout.specs.declared.Way.{Way}
-use Rattle.ach.proofs.Bounds.{Coded, low-coded, number-range, import-coded, export-low, check-low, read-low, write-low, alter-low, addendum-low}
+use Rattle.ach.proofs.Bounds.{Coded, low-coded, number-range, import-coded, export-low, check-low, read-low, write-low, alter-low, recall-low, addendum-low}
 use Rattle.ach_c.specs.Boundary.{codeOfAnswer}
 
 -- the code c gives the three numbers back, and is 0 exactly if it is granted
@@ -47,7 +48,7 @@ told (Answer.Refused x) l =
       granted = (λ e. absurd (not-zero _ (x .field) (x .record .0) (n .1) (l .0) (l .1) (n .0) e), not-granted);
     }
 
--- so it is with each of the seven functions
+-- so it is with each of the eight functions
 pub check-told : (way : Way) (f : List ℕ) → Told (codeOfAnswer (checkedOf way f .answer)) (checkedOf way f .answer)
 check-told way f = told (checkedOf way f .answer) (low-coded (checkedOf way f .answer) (check-low way f))
 
@@ -62,6 +63,9 @@ alter-told way f k a = told (alterOf way f k a .gives .answer) (low-coded (alter
 
 pub addendum-told : (way : Way) (f : List ℕ) (k : ℕ) → Told (codeOfAnswer (addendumAnswer way f k)) (addendumAnswer way f k)
 addendum-told way f k = told (addendumAnswer way f k) (low-coded (addendumAnswer way f k) (addendum-low way f k))
+
+pub recall-told : (way : Way) (f ns : List ℕ) → Told (codeOfAnswer (takeOutOf way f ns .gives .answer)) (takeOutOf way f ns .gives .answer)
+recall-told way f ns = told (takeOutOf way f ns .gives .answer) (low-coded (takeOutOf way f ns .gives .answer) (recall-low way f ns))
 
 -- of importing while a line's number is below 2 ^ 32
 pub import-told : (filerow batchrow lines table : List ℕ) → length lines ≤ 4294967295

@@ -9,6 +9,7 @@ ghost use Rattle.records.specs.Run.{checkedOf};
 ghost use Rattle.ach_c.specs.Boundary.{wayOf, codeOfAnswer, numbersOf, numbersLeft, left};
 ghost use Rattle.comma.specs.Import.{importOf};
 ghost use Rattle.exporting.specs.Export.{exportOf};
+ghost use Rattle.without.specs.Without.{takeOutOf};
 ghost use Rattle.view.specs.Outcome.{readOf, writeOf, alterOf, addendumAnswer, addendumOf};
 
 // The way of a file, told by a number.
@@ -119,6 +120,19 @@ pub extern "C" fn ach_export(table: &[u8], lines: &mut [u8], length: &mut u64) -
     ensures { λ r. ⌜ (r ≡ codeOfAnswer (exportOf (now (table .entry)) (now (lines .entry)) .gives .answer)) × (now (lines .exit) ≡ exportOf (now (table .entry)) (now (lines .entry)) .leaves) × (now (length .exit) ≡ left (exportOf (now (table .entry)) (now (lines .entry)) .gives .answer) (exportOf (now (table .entry)) (now (lines .entry)) .gives .length) (now (length .entry))) ⌝ }
 {
     let made = ach::export(table, lines);
+    let answer = made.answer;
+    if let Answer::Granted = answer {
+        *length = made.length;
+        return 0;
+    }
+    code_of(answer)
+}
+
+#[no_mangle]
+pub extern "C" fn ach_take_out(way: u64, file: &mut [u8], entries: &[u64], length: &mut u64) -> u64
+    ensures { λ r. ⌜ (r ≡ codeOfAnswer (takeOutOf (wayOf way) (now (file .entry)) (now (entries .entry)) .gives .answer)) × (now (file .exit) ≡ takeOutOf (wayOf way) (now (file .entry)) (now (entries .entry)) .leaves) × (now (length .exit) ≡ left (takeOutOf (wayOf way) (now (file .entry)) (now (entries .entry)) .gives .answer) (takeOutOf (wayOf way) (now (file .entry)) (now (entries .entry)) .gives .length) (now (length .entry))) ⌝ }
+{
+    let made = ach::take_out(way_of(way), file, entries);
     let answer = made.answer;
     if let Answer::Granted = answer {
         *length = made.length;

@@ -77,7 +77,7 @@ pub fn judged(table: &[u8]) -> Answer
 }
 
 // Puts the line end of the way behind a record.
-fn end_line(way: Way, file: &mut [u8], at: usize)
+pub fn end_line(way: Way, file: &mut [u8], at: usize)
     requires { ⌜ at + length (endOf way) ≤ length (now file) ⌝ }
     ensures { λ _. ⌜ now (file .exit) ≡ sets (now (file .entry)) at (endOf way) ⌝ }
 {

@@ -193,11 +193,11 @@ misplaced st r e p =
     absurd (omega arith)
 
 -- the control records have 94 bytes
-control-long : (s : Sums) (h : List ℕ) → length h ≡ 94 → length (batchControlFrom s h) ≡ 94
+pub control-long : (s : Sums) (h : List ℕ) → length h ≡ 94 → length (batchControlFrom s h) ≡ 94
 control-long s h l =
     length-wide (1 ∷ 3 ∷ 6 ∷ 10 ∷ 12 ∷ 12 ∷ 10 ∷ 19 ∷ 6 ∷ 8 ∷ 7 ∷ []) _ (simp (length-render, length-take, length-drop, l) (omega arith))
 
-file-control-long : (s : Sums) → length (fileControlFrom s) ≡ 94
+pub file-control-long : (s : Sums) → length (fileControlFrom s) ≡ 94
 file-control-long s = length-wide (1 ∷ 6 ∷ 6 ∷ 8 ∷ 10 ∷ 12 ∷ 12 ∷ 39 ∷ []) _ (simp length-render (omega arith))
 
 -- their first byte

@@ -32,6 +32,16 @@ by-named {P} k ns f g = go (named k ns) refl
     go true e = f e
     go false e = g e
 
+-- one entry, which goes or stays
+module _ (ns : List ℕ) (k : ℕ) (e : Entry) (es : List Entry) where
+  pub gone-step : named k ns ≡ true → entriesLeft ns k (e ∷ es) ≡ entriesLeft ns (k + 1) es
+  unfolding entriesLeft
+  gone-step h = rw h
+
+  pub stay-step : named k ns ≡ false → entriesLeft ns k (e ∷ es) ≡ e ∷ entriesLeft ns (k + 1) es
+  unfolding entriesLeft
+  stay-step h = rw h
+
 -- a batch with no entry left is dropped, another stays
 pub unless-empty : (P : List Batch → Type 0) (row : List ℕ) (es : List Entry) (bs : List Batch)
     → P bs → (1 ≤ length es → P (record { row = row; entries = es } ∷ bs)) → P (unlessEmpty row es bs)

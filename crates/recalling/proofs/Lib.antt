@@ -1,0 +1,5 @@
+pub mod PutLaws
+pub mod LeftLaws
+pub mod MarkLaws
+pub mod CloseLaws
+pub mod OutLaws
