@@ -70,6 +70,7 @@ extern "C" {
  *  12 check digit                    25 no such entry
  *  13 bank begins with 4 to 9        26 record not followed by CR LF
  *
+ *  27 no entry would be left
  *  29 line of a list is not six fields in the grammar of RFC 4180
  *  30 amount of a line not in its form, or over 9,999,999,999 cents
  *  32 another field of a line too long for its columns
@@ -78,8 +79,8 @@ extern "C" {
  * number. 1 is a length of 0, no multiple of the record's 94 or 96 bytes, or
  * over a million records; so is the lack of the last CR LF. 26 is given in the
  * second way alone, with field 0: after all fields of its record, and before
- * everything of the next one. The record that 4 names is not looked at. 29, 30
- * and 32 are given by ach_import alone.
+ * everything of the next one. The record that 4 names is not looked at. 27 is
+ * given by ach_take_out alone, 29, 30 and 32 by ach_import alone.
  */
 
 /* Where the numbers of an acceptance stand. */
@@ -134,6 +135,23 @@ uint64_t ach_write(uint64_t way, const uint8_t *table, size_t n, uint8_t *file,
  */
 uint64_t ach_alter(uint64_t way, uint8_t *file, size_t n, uint64_t entry,
                    uint64_t amount, int64_t *difference);
+
+/*
+ * Takes entries out of an accepted file: the `count` numbers at `entries` say
+ * which, counted from 1 through the file as it is lent, in any order and with
+ * repeats counting once. Their addenda go with them, and so does a batch that is
+ * left empty; the records close up, and every control and the fillers are
+ * corrected. What is left is the file that ach_write makes of the pay table
+ * without those rows: traces, batch numbers and all else stay as they were.
+ *
+ * Granted, the file stands in front of the n bytes, `length` is how many bytes
+ * it has, and the bytes behind it are blanks (0x20), in the second way too. No
+ * numbers at all are granted and change nothing. Refused: the file's own, 25 if
+ * any of the numbers is no entry's, 27 if no entry would be left. The numbers
+ * are only read. `entries` may be null if count is 0.
+ */
+uint64_t ach_take_out(uint64_t way, uint8_t *file, size_t n,
+                      const uint64_t *entries, size_t count, uint64_t *length);
 
 /*
  * Tells where the addendum of an entry stands: `length` (80) bytes from

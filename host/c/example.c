@@ -1,7 +1,7 @@
 /*
  * Checks a file without line ends and one with CR LF behind every record,
- * alters one amount in each, makes a table of a client's list and a list of the
- * table, and prints what the library answers.
+ * alters one amount and takes one entry out in each, makes a table of a client's
+ * list and a list of the table, and prints what the library answers.
  *
  *     cc -Iinclude host/c/example.c target/staticlib/libach_c.a -o example
  *     ./example samples/whole.ach samples/whole-lined.ach
@@ -49,6 +49,20 @@ static void print_alteration(uint64_t way, size_t n, uint64_t entry,
            "\n", entry, amount, difference);
 }
 
+/* The number of bytes that the file has afterwards. */
+static size_t print_taking_out(uint64_t way, size_t n, const uint64_t *entries,
+                               size_t count)
+{
+    uint64_t length;
+    uint64_t answer = ach_take_out(way, file, n, entries, count, &length);
+    if (answer != 0) {
+        print_refusal("take out", answer);
+        return n;
+    }
+    printf("take out: %" PRIu64 " bytes of %zu are left\n", length, n);
+    return length;
+}
+
 static void print_addendum(uint64_t way, size_t n, uint64_t entry)
 {
     uint64_t start, length;
@@ -82,6 +96,8 @@ static void print_round_trip(uint64_t way, size_t n)
 /* What is asked of both files. */
 static void print_all(uint64_t way, size_t n)
 {
+    static const uint64_t second[] = {2, 2}, both[] = {2, 1};
+
     print_check(way, n);
     print_alteration(way, n, 1, 200000);
     print_check(way, n);
@@ -91,6 +107,9 @@ static void print_all(uint64_t way, size_t n)
     print_round_trip(way, n);
     if (n > 0)
         print_check(way, n - 1);
+    print_taking_out(way, n, both, 2);
+    n = print_taking_out(way, n, second, 2);
+    print_check(way, n);
 }
 
 /*

@@ -6,8 +6,8 @@
 //! is refused (29, 30, 32), its number stands for the record.
 //!
 //! # Safety
-//! A pointer is to as many bytes as the length behind it says, or to as many numbers as the
-//! function writes; a null pointer will do for no bytes. What is lent to one call is apart.
+//! A pointer is to as many bytes or numbers as the length behind it says, or to as many numbers as
+//! the function writes; a null pointer will do for none. What is lent to one call is apart.
 
 extern "C" {
     /// Checks the `n` bytes at `file`. Granted, it fills 21 numbers: batches, entries, addenda,
@@ -52,6 +52,17 @@ extern "C" {
         n: usize,
         entry: u64,
         start: *mut u64,
+        length: *mut u64,
+    ) -> u64;
+
+    /// Takes the `count` entries out whose numbers stand at `entries`; the new length goes to
+    /// `length`, and the bytes of the file from there on become blanks.
+    pub fn ach_take_out(
+        way: u64,
+        file: *mut u8,
+        n: usize,
+        entries: *const u64,
+        count: usize,
         length: *mut u64,
     ) -> u64;
 

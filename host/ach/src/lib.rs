@@ -1,4 +1,5 @@
-//! Qalarimo ACH: checking, reading, writing and altering ACH payment files, and client lists.
+//! Qalarimo ACH: checking, reading, writing and altering ACH payment files, taking entries out of
+//! them, and client lists.
 //!
 //! The work is done by a proved library, which this crate links as an archive. What is here turns
 //! slices into pointers and numbers into answers, and nothing else. Every function takes any
@@ -234,6 +235,38 @@ pub fn alter(way: Way, file: &mut [u8], entry: u64, amount: u64) -> Result<i64, 
         unsafe { boundary::ach_alter(way.number(), space, size, entry, amount, &mut difference) };
     granted(answer)?;
     Ok(difference)
+}
+
+/// Takes entries out, counted from 1 through the file as it is lent, with their addenda and with
+/// the batches that they leave empty, and brings the controls and the fillers along. Tells the new
+/// length; from there on the lent bytes are blanks.
+///
+/// The result is the file of the pay table without those rows; traces and batch numbers stay. The
+/// numbers may stand in any order, and repeats count once. At least one entry has to be left.
+///
+/// ```
+/// use ach::Way;
+///
+/// let mut file = *include_bytes!("../../../samples/gaps.ach");
+/// let length = ach::take_out(Way::Plain, &mut file, &[6, 2, 3, 5, 3])?;
+/// assert_eq!(&file[..length], include_bytes!("../../../samples/recalled.ach"));
+/// assert_eq!(file[length..], [b' '; 10 * 94]);
+///
+/// let file = &mut file[..length];
+/// assert_eq!(ach::take_out(Way::Plain, file, &[3]).unwrap_err().number, 25);
+/// assert_eq!(ach::take_out(Way::Plain, file, &[1, 2]).unwrap_err().number, 27);
+/// assert_eq!(ach::check(Way::Plain, file)?.entries, 2);
+/// # Ok::<(), ach::Refusal>(())
+/// ```
+pub fn take_out(way: Way, file: &mut [u8], entries: &[u64]) -> Result<usize, Refusal> {
+    let mut length = 0;
+    let (space, size) = (file.as_mut_ptr(), file.len());
+    let (list, count) = (entries.as_ptr(), entries.len());
+    // SAFETY: as for `alter`; the list is lent for reading and does not overlap the file.
+    let answer =
+        unsafe { boundary::ach_take_out(way.number(), space, size, list, count, &mut length) };
+    granted(answer)?;
+    Ok(length as usize)
 }
 
 /// The 80 bytes of text in the addendum of an entry, counted from 1; nothing if it has none.

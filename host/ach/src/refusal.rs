@@ -57,7 +57,7 @@ impl fmt::Display for Refusal {
 impl std::error::Error for Refusal {}
 
 /// What each number means.
-const REASONS: [(u8, &str); 29] = [
+const REASONS: [(u8, &str); 30] = [
     (1, "the length of the file is wrong"),
     (2, "the data end where a record is still due"),
     (3, "a record of this type may not stand here"),
@@ -84,6 +84,7 @@ const REASONS: [(u8, &str); 29] = [
     (24, "the table is not of the right shape"),
     (25, "there is no entry of this number"),
     (26, "the record is not followed by CR LF"),
+    (27, "no entry would be left"),
     (29, "the line is not six fields with commas between them"),
     (30, "the amount of the line is not digits, a point and two digits, or is too large"),
     (32, "the field of the line is too long for its columns"),
@@ -93,7 +94,7 @@ const REASONS: [(u8, &str); 29] = [
 ///
 /// ```
 /// assert_eq!(ach::reason(12), Some("the check digit is wrong"));
-/// assert_eq!(ach::reason(27), None);
+/// assert_eq!(ach::reason(28), None);
 /// ```
 pub fn reason(number: u8) -> Option<&'static str> {
     REASONS.iter().find(|(known, _)| *known == number).map(|(_, words)| *words)

@@ -79,6 +79,7 @@ fn a_line_end_is_refused_by_every_function() {
         assert_eq!(ach::addendum(Way::Lined, &file, 1), Err(refusal));
         let before = file.clone();
         assert_eq!(ach::alter(Way::Lined, &mut file, 1, 1), Err(refusal));
+        assert_eq!(ach::take_out(Way::Lined, &mut file, &[1]), Err(refusal));
         assert_eq!(file, before);
     }
 }
@@ -137,5 +138,5 @@ fn a_refusal_speaks() {
     assert_eq!(words(8, 0), "refusal 6: something other than digits stands here (record 8)");
     assert!(words(8, 3).ends_with("stands here (record 8, field 3)"));
     let known: Vec<u8> = (0..=255).filter(|number| ach::reason(*number).is_some()).collect();
-    assert_eq!(known, (1..=26).chain([29, 30, 32]).collect::<Vec<u8>>());
+    assert_eq!(known, (1..=27).chain([29, 30, 32]).collect::<Vec<u8>>());
 }

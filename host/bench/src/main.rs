@@ -22,6 +22,8 @@ fn main() {
     check("check, lined", ach::Way::Lined, independent::Way::Lined, &lined(&file));
     read_and_write(&file);
     alter(&file);
+    take_out("take out 4", &file, |entries| (1..=4).map(|fifth| entries * fifth / 5).collect());
+    take_out("take out half", &file, |entries| (1..=entries).step_by(2).collect());
 }
 
 fn check(name: &str, way: ach::Way, independent_way: independent::Way, file: &[u8]) {
@@ -88,6 +90,20 @@ fn alter(file: &[u8]) {
     );
 }
 
+/// Takes from the file, which is there afresh in every round, what is chosen of so many entries.
+fn take_out(name: &str, file: &[u8], chosen: impl Fn(u64) -> Vec<u64>) {
+    let entries = file.chunks(generate::RECORD).filter(|record| record[0] == b'6').count();
+    let list = chosen(entries as u64);
+    let due = "the entries are there, and others";
+    race_in(
+        name,
+        &mut file.to_vec(),
+        |lent| lent.copy_from_slice(file),
+        |lent| ach::take_out(ach::Way::Plain, black_box(lent), &list).expect(due),
+        |lent| independent::take_out(independent::Way::Plain, black_box(lent), &list).expect(due),
+    );
+}
+
 /// The number of an entry in the middle of the file that carries money.
 fn middle_live_entry(file: &[u8]) -> u64 {
     let entries = file.chunks(generate::RECORD).filter(|record| record[0] == b'6');
@@ -103,10 +119,23 @@ fn race<T: PartialEq + std::fmt::Debug>(
     mut proved: impl FnMut() -> T,
     mut independent: impl FnMut() -> T,
 ) {
+    race_in(name, &mut (), |()| (), |()| proved(), |()| independent());
+}
+
+/// As `race`, in memory that is prepared before each turn; that is not timed.
+fn race_in<M, T: PartialEq + std::fmt::Debug>(
+    name: &str,
+    memory: &mut M,
+    prepare: impl Fn(&mut M),
+    mut proved: impl FnMut(&mut M) -> T,
+    mut independent: impl FnMut(&mut M) -> T,
+) {
     let mut best = [Duration::MAX; 2];
     for _ in 0..ROUNDS {
-        let (result, time) = timed(&mut proved);
-        let (expected, other_time) = timed(&mut independent);
+        prepare(memory);
+        let (result, time) = timed(|| proved(memory));
+        prepare(memory);
+        let (expected, other_time) = timed(|| independent(memory));
         // The first round of an alteration finds another amount than the later ones, on both sides.
         assert_eq!(result, expected, "{name}: the two sides differ");
         best = [best[0].min(time), best[1].min(other_time)];
@@ -115,7 +144,7 @@ fn race<T: PartialEq + std::fmt::Debug>(
     println!("{name:<14}{}{}  {ratio:>6.2}", column(best[0]), column(best[1]));
 }
 
-fn timed<T>(work: &mut impl FnMut() -> T) -> (T, Duration) {
+fn timed<T>(work: impl FnOnce() -> T) -> (T, Duration) {
     let start = Instant::now();
     let result = black_box(work());
     (result, start.elapsed())

@@ -4,9 +4,10 @@ use crate::explain;
 use crate::input::{self, Content, Stamp};
 use crate::list_words::{self, Import, LONGEST_ROW};
 use crate::money::{signed, spelled};
-use crate::options::{Amount, Command, Entry, Rows, Source, Target, HELP};
+use crate::options::{Amount, Command, Entry, Recall, Rows, Source, Target, HELP};
 use crate::output;
 use crate::progress::Progress;
+use crate::recall;
 use crate::show;
 use crate::trouble::{failed, standard_output, Trouble};
 use crate::words;
@@ -23,6 +24,9 @@ pub fn run(command: Command) -> Result<(), Trouble> {
         Command::Write { way, table, target, line } => write(way, &table, &target, line),
         Command::Alter { way, file, entry, amount, target, line } => {
             alter(way, &file, &entry, &amount, &target, line)
+        }
+        Command::Remove { way, file, recall, target, line } => {
+            remove(way, &file, recall, &target, line)
         }
         Command::Addendum { way, file, entry } => addendum(way, &file, &entry),
         Command::Import { list, rows, target, line } => import(&list, &rows, &target, line),
@@ -65,6 +69,17 @@ fn load_list(source: &Source) -> Result<Loaded, Trouble> {
 fn load_row(source: &Source) -> Result<Vec<u8>, Trouble> {
     let loaded = load(source, LONGEST_ROW)?;
     Ok(loaded.map_or_else(|_| vec![b' '; LONGEST_ROW + 1], |loaded| loaded.bytes))
+}
+
+/// The entries in a list of those to be removed.
+fn load_entries(source: &Source) -> Result<Vec<recall::Entries>, Trouble> {
+    let most = recall::LONGEST_LIST;
+    match load(source, most)? {
+        Ok(Loaded { name, bytes, .. }) => recall::listed(&name, &bytes),
+        Err(name) => {
+            failed(format!("{name}: more than {most} bytes are not read as a list of entries"))
+        }
+    }
 }
 
 /// The bytes, or the name of what is too long.
@@ -222,6 +237,52 @@ fn alter(
         signed(difference)
     );
     say_beside(target, &words)
+}
+
+fn remove(
+    way: Way,
+    file: &Source,
+    recall: Recall,
+    target: &Target,
+    line: bool,
+) -> Result<(), Trouble> {
+    output::look_at(target)?;
+    let mut asked = recall.entries;
+    if let Some(list) = &recall.list {
+        asked.extend(load_entries(list)?);
+    }
+    let numbers = recall::numbers(&asked)?;
+    let mut loaded = load_file(way, file, line)?;
+    let before = check_bytes(way, &loaded, line)?;
+    let (name, bytes) = (&loaded.name, &mut loaded.bytes);
+    let length = watched("taking entries out of", name, || ach::take_out(way, bytes, &numbers))
+        .map_err(|refusal| {
+            let words = || words::of_recall(way, name, bytes, refusal, &asked, before.entries);
+            refused(refusal, line, words)
+        })?;
+    bytes.truncate(length);
+    put(target, bytes, loaded.stamp)?;
+    let after = ach::check(way, bytes);
+    report(target, after, length, line)?;
+    match after {
+        Ok(after) if !line => {
+            let gone = difference(&before, &after);
+            say_beside(target, &format!("  taken out: {}\n", held_words(&gone)))
+        }
+        _ => Ok(()),
+    }
+}
+
+/// What was held before and is no longer.
+fn difference(before: &Acceptance, after: &Acceptance) -> Acceptance {
+    Acceptance {
+        batches: before.batches - after.batches,
+        entries: before.entries - after.entries,
+        addenda: before.addenda - after.addenda,
+        debit: before.debit - after.debit,
+        credit: before.credit - after.credit,
+        by_code: std::array::from_fn(|index| before.by_code[index] - after.by_code[index]),
+    }
 }
 
 fn addendum(way: Way, file: &Source, entry: &Entry) -> Result<(), Trouble> {

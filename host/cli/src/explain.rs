@@ -75,7 +75,7 @@ fn numbers_of(kind: Kind) -> &'static [u8] {
 }
 
 /// What each number asks for.
-const ADVICE: [(u8, &str); 29] = [
+const ADVICE: [(u8, &str); 30] = [
     (1, "A file is records of 94 bytes, back to back, without line ends: 94 to 94,000,000 bytes. With\n\
      --lined it is records of 96 bytes, CR LF behind each, the last one too: 96 to 96,000,000 bytes."),
     (2, "The file ends early. Part of it is missing, or the fillers behind the file control are."),
@@ -109,6 +109,8 @@ const ADVICE: [(u8, &str); 29] = [
     (25, "Entries are counted from 1 through the file, as `ach show` does."),
     (26, "With --lined, CR LF (the bytes 0D 0A) stands behind column 94 of every record, fillers too.\n\
      Without --lined there are no line ends, and this number is not given."),
+    (27, "A file has at least one entry, so they cannot all be taken out. To recall every payment of a\n\
+     file, do not send it."),
     (29, "A line has six fields with commas between them: code, routing number, account, amount,\n\
      identification, name. A field with a comma, a quote or a break in it stands in quotes, and a\n\
      quote in it is doubled. CR LF ends a line. There is no header line and no empty line."),

@@ -1,4 +1,5 @@
-//! `ach`: checks, reads, writes, alters and shows ACH payment files, and takes client lists.
+//! `ach`: checks, reads, writes, alters and shows ACH payment files, takes entries out of them, and
+//! takes client lists.
 //!
 //! All that is decided about a file is decided by the proved library. What is here moves bytes
 //! between files and the library's functions, and puts its answers into words.
@@ -16,6 +17,7 @@ mod money;
 mod options;
 mod output;
 mod progress;
+mod recall;
 mod show;
 mod trouble;
 mod words;

@@ -1,14 +1,15 @@
 //! The command line: which command, on what, with which options.
 
 use crate::money;
+use crate::recall::Entries;
 use crate::trouble::{misused, shown, Trouble};
 use ach::Way;
 use std::ffi::OsString;
 use std::path::{Path, PathBuf};
 
 pub const HELP: &str = "\
-ach: checks, reads, writes and alters ACH payment files (PPD and CCD), and makes
-pay tables of client lists
+ach: checks, reads, writes and alters ACH payment files (PPD and CCD), takes
+entries out of them, and makes pay tables of client lists
 
   ach check FILE                          is the file in order?
   ach show FILE                           batches, entries, totals
@@ -16,6 +17,8 @@ pay tables of client lists
   ach write TABLE -o FILE                 the file of a pay table
   ach alter FILE ENTRY AMOUNT -o FILE     one entry's amount, with the totals
   ach alter FILE ENTRY AMOUNT --in-place
+  ach remove FILE ENTRY.. -o FILE         the file without these entries
+  ach remove FILE ENTRY.. --in-place
   ach addendum FILE ENTRY                 the text of an entry's addendum
   ach import LINES --file-row ROW --batch-row ROW -o TABLE
                                           the pay table of a client's list
@@ -27,6 +30,12 @@ ENTRY counts the entries from 1 through the file, as `ach show` does. AMOUNT is
 1234.56, or 1234 for whole dollars: digits, with no point or a point and two
 digits.
 
+For remove, ENTRY is a number or a range such as 3-7, in any order, and more may
+stand in a file, one a line, behind --list. All are numbers of FILE as it is.
+Addenda go with their entries, and a batch that is left empty goes too; traces
+and batch numbers stay, counts, totals and fillers are corrected. At least one
+entry has to be left.
+
 LINES are comma lines as spreadsheets export them (RFC 4180), without a header
 line: code, routing number, account, amount (1234.56), identification, name. ROW
 is a file that holds one row of a pay table and nothing else: 85 bytes for the
@@ -37,10 +46,12 @@ filled in. A line break at the end of a row's file is NOT stripped: it counts.
                without it records stand back to back (94 bytes); nothing guesses
   -o PATH      where the result goes; a file that is there is kept
   --force      replace a file that is there, keeping its permissions
-  --in-place   replace the altered file itself, keeping its permissions
+  --in-place   replace the file that is read, keeping its permissions
+  --list PATH  entries to be removed, beside those on the command line
   --line       one line: OK batches entries addenda debit credit (in cents), or
-               NO number record field (check, read, write, alter, import,
-               export; for an import's 29, 30 and 32 the line is the record)
+               NO number record field (check, read, write, alter, remove,
+               import, export; for an import's 29, 30 and 32 the line is the
+               record)
   --           what follows is no option
   --help, --version
 
@@ -95,10 +106,18 @@ pub enum Command {
     Read { way: Way, file: Source, target: Target, line: bool },
     Write { way: Way, table: Source, target: Target, line: bool },
     Alter { way: Way, file: Source, entry: Entry, amount: Amount, target: Target, line: bool },
+    Remove { way: Way, file: Source, recall: Recall, target: Target, line: bool },
     Addendum { way: Way, file: Source, entry: Entry },
     Import { list: Source, rows: Rows, target: Target, line: bool },
     Export { table: Source, target: Target, line: bool },
     Explain { number: u8 },
+}
+
+/// The entries that are to be removed, and the file that has more of them.
+#[derive(Debug, PartialEq)]
+pub struct Recall {
+    pub entries: Vec<Entries>,
+    pub list: Option<Source>,
 }
 
 /// The files that hold the rows of an import.
@@ -128,7 +147,7 @@ struct Given {
 }
 
 /// The options that a path follows.
-const WITH_PATH: [&str; 3] = ["-o", "--file-row", "--batch-row"];
+const WITH_PATH: [&str; 4] = ["-o", "--file-row", "--batch-row", "--list"];
 const FLAGS: [&str; 4] = ["--force", "--in-place", "--line", "--lined"];
 
 pub fn parse(arguments: impl Iterator<Item = OsString>) -> Result<Command, Trouble> {
@@ -224,6 +243,7 @@ impl Given {
                 Command::Write { way: self.way(), table, target, line }
             }
             "alter" => self.alter()?,
+            "remove" => self.remove()?,
             "addendum" => {
                 let [file, entry] = self.take("FILE ENTRY")?;
                 let entry = entry_number(&entry)?;
@@ -257,16 +277,25 @@ impl Given {
         let [file, entry, amount] = self.take("FILE ENTRY AMOUNT")?;
         let (entry, amount) = (entry_number(&entry)?, amount_in_cents(&amount)?);
         let file = source(&file);
-        let target = match (self.flag("--in-place"), self.has_path("-o"), &file) {
-            (false, ..) => self.target()?,
-            (true, true, _) => return misused("--in-place and -o exclude each other"),
-            (true, false, Source::StandardInput) => {
-                return misused("standard input cannot be altered in place")
-            }
-            (true, false, Source::File(path)) => Target::InPlace(path.clone()),
-        };
+        let target = self.target_for(&file)?;
         let (way, line) = (self.way(), self.flag("--line"));
         Ok(Command::Alter { way, file, entry, amount, target, line })
+    }
+
+    fn remove(&mut self) -> Result<Command, Trouble> {
+        let mut words = std::mem::take(&mut self.words).into_iter();
+        let Some(file) = words.next() else {
+            return misused("FILE ENTRY.. is wanted behind the command");
+        };
+        let entries = words.map(|word| entry_numbers(&word)).collect::<Result<Vec<_>, _>>()?;
+        let recall = Recall { entries, list: self.read_path("--list")? };
+        if recall.entries.is_empty() && recall.list.is_none() {
+            return misused("which entries? remove wants numbers, or --list and a file of them");
+        }
+        let file = source(&file);
+        let target = self.target_for(&file)?;
+        let (way, line) = (self.way(), self.flag("--line"));
+        Ok(Command::Remove { way, file, recall, target, line })
     }
 
     fn way(&mut self) -> Way {
@@ -286,12 +315,31 @@ impl Given {
         })
     }
 
-    /// The file of a row. Standard input, if it is read, holds the list.
+    /// The file of a row, which an import cannot do without.
     fn row(&mut self, option: &str) -> Result<Source, Trouble> {
-        match self.path(option) {
+        match self.read_path(option)? {
             None => misused(format!("import wants {option} and the name of a file with the row")),
+            Some(file) => Ok(file),
+        }
+    }
+
+    /// A file that is read beside the one that the command is about, which may be standard input.
+    fn read_path(&mut self, option: &str) -> Result<Option<Source>, Trouble> {
+        match self.path(option) {
             Some(path) if path == "-" => misused(format!("{option} wants a file and not a stream")),
-            Some(path) => Ok(Source::File(path.into())),
+            path => Ok(path.map(|path| Source::File(path.into()))),
+        }
+    }
+
+    /// Where a changed file goes: to a place of its own, or to that of the one that is read.
+    fn target_for(&mut self, file: &Source) -> Result<Target, Trouble> {
+        match (self.flag("--in-place"), self.has_path("-o"), file) {
+            (false, ..) => self.target(),
+            (true, true, _) => misused("--in-place and -o exclude each other"),
+            (true, false, Source::StandardInput) => {
+                misused("standard input cannot be altered in place")
+            }
+            (true, false, Source::File(path)) => Ok(Target::InPlace(path.clone())),
         }
     }
 
@@ -331,6 +379,14 @@ fn entry_number(word: &OsString) -> Result<Entry, Trouble> {
     match money::number(&text) {
         Some(number) => Ok(Written { number, text }),
         None => misused(format!("an entry's number is digits, not {text}")),
+    }
+}
+
+fn entry_numbers(word: &OsString) -> Result<Entries, Trouble> {
+    let text = shown(Path::new(word));
+    match Entries::parse(&text) {
+        Some(entries) => Ok(entries),
+        None => misused(format!("entries are written 7 or, lower number first, 3-7, not {text}")),
     }
 }
 
@@ -400,6 +456,8 @@ mod tests {
             "write a -o b",
             "alter a 1 1.00 -o b",
             "alter a 1 1.00 --in-place",
+            "remove a 1 2-3 -o b",
+            "remove a --list l --in-place",
             "addendum a 1",
         ] {
             assert_eq!(parsed(words).unwrap().way(), Some(Way::Plain), "{words}");
@@ -417,6 +475,7 @@ mod tests {
                 | Command::Read { way, .. }
                 | Command::Write { way, .. }
                 | Command::Alter { way, .. }
+                | Command::Remove { way, .. }
                 | Command::Addendum { way, .. } => Some(*way),
                 Command::Import { .. }
                 | Command::Export { .. }
@@ -447,6 +506,25 @@ mod tests {
     }
 
     #[test]
+    fn entries_to_be_removed() {
+        let recall = |words: &str| match parsed(words) {
+            Ok(Command::Remove { recall, target, .. }) => (recall, target),
+            other => panic!("{words}: {other:?}"),
+        };
+        let entries = |texts: &[&str]| texts.iter().flat_map(|text| Entries::parse(text)).collect();
+        let list = || Some(Source::File("l".into()));
+        let (given, target) = recall("remove a 9 3-7 9 -o b --force");
+        assert_eq!(given, Recall { entries: entries(&["9", "3-7", "9"]), list: None });
+        assert_eq!(target, Target::Replaced("b".into()));
+        let (given, target) = recall("remove --list l a 2 --in-place --line");
+        assert_eq!(given, Recall { entries: entries(&["2"]), list: list() });
+        assert_eq!(target, Target::InPlace("a".into()));
+        let (given, target) = recall("remove - --list l -o -");
+        assert_eq!(given, Recall { entries: vec![], list: list() });
+        assert_eq!(target, Target::StandardOutput);
+    }
+
+    #[test]
     fn what_makes_no_sense_is_misuse() {
         for words in [
             "",
@@ -471,6 +549,24 @@ mod tests {
             "alter a x 1.00 -o b",
             "alter a 1 1.5 -o b",
             "alter a -1 1.00 -o b",
+            "remove",
+            "remove a",
+            "remove a -o b",
+            "remove a --in-place",
+            "remove a 1",
+            "remove a 7-3 -o b",
+            "remove a 1,2 -o b",
+            "remove a x -o b",
+            "remove a -1 -o b",
+            "remove a 1 -o b --in-place",
+            "remove a 1 --in-place --force",
+            "remove - 1 --in-place",
+            "remove a --list - -o b",
+            "remove a --list -o b",
+            "remove a --list",
+            "remove a --list l --list l -o b",
+            "remove a 1 -o - --line",
+            "alter a 1 1.00 -o b --list l",
             "addendum a",
             "addendum a one",
             "import a -o b",
@@ -489,7 +585,7 @@ mod tests {
             "read a -o b --batch-row r",
             "explain 12 --lined",
             "explain 0",
-            "explain 27",
+            "explain 28",
             "explain 31",
             "explain 33",
             "explain 257",

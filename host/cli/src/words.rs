@@ -5,6 +5,7 @@ use crate::due::{next_types, Place};
 use crate::formed;
 use crate::money::spelled;
 use crate::options::Written;
+use crate::recall::Entries;
 use ach::fields::{record_type, COLUMNS, RECORD_TYPES};
 use ach::{Refusal, Way};
 
@@ -122,7 +123,7 @@ pub fn of_alteration(
         return of_file(way, name, file, refusal);
     }
     let explanation = match refusal.number {
-        25 => no_entry(way, file, entry),
+        25 => no_entry(way, file, &entry.text),
         14 => {
             let mut explanation = in_records(way, file, refusal);
             explanation.stands += &format!("; asked for is {}", amount.text);
@@ -142,15 +143,40 @@ pub fn of_alteration(
 /// A refusal to give an entry's addendum.
 pub fn of_addendum(way: Way, name: &str, file: &[u8], refusal: Refusal, entry: &Written) -> String {
     match refusal.number {
-        25 => no_entry(way, file, entry).lines(name, refusal),
+        25 => no_entry(way, file, &entry.text).lines(name, refusal),
         _ => of_file(way, name, file, refusal),
     }
 }
 
-fn no_entry(way: Way, file: &[u8], entry: &Written) -> Explanation {
+/// A refusal to take entries out of a file that is in order and has so many.
+pub fn of_recall(
+    way: Way,
+    name: &str,
+    file: &[u8],
+    refusal: Refusal,
+    asked: &[Entries],
+    entries: u64,
+) -> String {
+    let explanation = match refusal.number {
+        25 => {
+            let outside = asked.iter().find_map(|asked| asked.outside(entries));
+            no_entry(way, file, &outside.unwrap_or_default())
+        }
+        27 => Explanation {
+            stands: format!("all entries are to be taken out, 1 to {entries}"),
+            due: "at least one entry that stays; if none is to be paid, do not send the file"
+                .into(),
+            ..Explanation::default()
+        },
+        _ => return of_file(way, name, file, refusal),
+    };
+    explanation.lines(name, refusal)
+}
+
+fn no_entry(way: Way, file: &[u8], entry: &str) -> Explanation {
     let entries = ach::check(way, file).map_or(0, |held| held.entries);
     Explanation {
-        stands: format!("entry {}", entry.text),
+        stands: format!("entry {entry}"),
         due: format!("an entry from 1 to {entries}"),
         ..Explanation::default()
     }

@@ -300,7 +300,7 @@ fn every_entry_is_shown_with_its_amount() {
 
 #[test]
 fn explain() {
-    for number in (1..=26).chain([29, 30, 32]) {
+    for number in (1..=27).chain([29, 30, 32]) {
         let run = ach!("explain", number.to_string());
         assert_eq!((run.status, run.err.as_str()), (0, ""));
         assert!(run.out.starts_with(&format!("{number}: ")), "{run:?}");
@@ -318,6 +318,14 @@ Batch numbers start at 1 or above, and each is greater than the one before.
         "26: the record is not followed by CR LF
 With --lined, CR LF (the bytes 0D 0A) stands behind column 94 of every record, fillers too.
 Without --lined there are no line ends, and this number is not given.
+",
+        "",
+    );
+    ach!("explain", "27").is(
+        0,
+        "27: no entry would be left
+A file has at least one entry, so they cannot all be taken out. To recall every payment of a
+file, do not send it.
 ",
         "",
     );
@@ -342,19 +350,20 @@ a doubled quote in it counts once.
 ",
         "",
     );
-    ach!("explain", "27").fails_with("no refusal has the number 27");
+    ach!("explain", "28").fails_with("no refusal has the number 28");
 }
 
 #[test]
 fn help_and_version() {
     let help = ach!("--help");
     assert_eq!((help.status, help.err.as_str()), (0, ""));
-    for name in
-        ["check", "read", "write", "alter", "addendum", "show", "explain", "import", "export"]
-    {
+    for name in [
+        "check", "read", "write", "alter", "remove", "addendum", "show", "explain", "import",
+        "export",
+    ] {
         assert!(help.out.contains(&format!("\n  ach {name} ")), "{name}");
     }
-    for option in ["--line", "--lined", "--file-row", "--batch-row", "NOT stripped"] {
+    for option in ["--line", "--lined", "--file-row", "--batch-row", "--list", "NOT stripped"] {
         assert!(help.out.contains(option), "{option}");
     }
     ach!("--version").is(0, concat!("ach ", env!("CARGO_PKG_VERSION"), "\n"), "");

@@ -1,16 +1,17 @@
-//! Random and damaged bytes to all seven functions of the boundary for as long as asked: each
+//! Random and damaged bytes to all eight functions of the boundary for as long as asked: each
 //! against the independent implementation, in memory between guards, and against one another.
 
+use crate::guard::Guarded;
 use crate::tally::{Outcome, Tally, PATTERN};
 use crate::{ways, Run};
 use ach::boundary::{
-    ach_addendum, ach_alter, ach_check, ach_export, ach_import, ach_read, ach_write,
+    ach_addendum, ach_alter, ach_check, ach_export, ach_import, ach_read, ach_take_out, ach_write,
 };
 use ach::{Refusal, ACCEPTANCE_LENGTH, BATCH_ROW, FILE_ROW};
 use generate::damage::{random_damage, resealed, BORDER_BYTES};
 use generate::lines::{lined, random_end_damage};
 use generate::lists::{list_of, random_list_damage, List};
-use generate::tables::{random_row_damage, shape_damage};
+use generate::tables::{random_row_damage, shape_damage, without_entries};
 use generate::{near_limit, plan, Plan, Random, RECORD};
 use independent::Way;
 use std::time::{Duration, Instant};
@@ -22,19 +23,20 @@ pub fn compare(run: &Run, tally: &mut Tally) {
         let way = *random.pick(&Way::BOTH);
         let bytes = input(&mut random, way);
         for question in questions(&mut random, way, &bytes) {
-            ask(tally, way, question, &bytes);
+            ask(tally, way, &question, &bytes);
         }
         relations(tally, &mut random, way, &bytes);
     }
 }
 
 /// A call of the boundary with all that it is given beside the bytes.
-#[derive(Clone, Copy, Debug)]
+#[derive(Debug)]
 enum Question {
     Check,
     Read { room: usize },
     Write { room: usize },
     Alter { entry: u64, amount: u64 },
+    TakeOut { entries: Vec<u64> },
     Addendum { entry: u64 },
     Import { parts: Parts, room: usize },
     Export { room: usize },
@@ -72,8 +74,27 @@ fn import(parts: Parts, bytes: &[u8]) -> Result<Vec<u8>, independent::Refusal> {
     independent::import(file_row, batch_row, lines)
 }
 
-/// All seven, with rooms and numbers around the edges.
-fn questions(random: &mut Random, way: Way, bytes: &[u8]) -> [Question; 7] {
+impl Question {
+    /// How much room is lent for a result.
+    fn room(&self) -> usize {
+        match self {
+            Question::Read { room }
+            | Question::Write { room }
+            | Question::Import { room, .. }
+            | Question::Export { room } => *room,
+            _ => 0,
+        }
+    }
+
+    /// Whether the lent bytes themselves are changed when it is granted.
+    fn changes_the_file(&self) -> bool {
+        matches!(self, Question::Alter { .. } | Question::TakeOut { .. })
+    }
+}
+
+/// All eight, with rooms and numbers around the edges.
+fn questions(random: &mut Random, way: Way, bytes: &[u8]) -> [Question; 8] {
+    let entries = entries(random, bytes);
     let entry = entry(random, bytes);
     let parts = Parts::of(random, bytes);
     [
@@ -81,6 +102,7 @@ fn questions(random: &mut Random, way: Way, bytes: &[u8]) -> [Question; 7] {
         Question::Read { room: room(random, independent::read(way, bytes)) },
         Question::Write { room: room(random, independent::write(way, bytes)) },
         Question::Alter { entry, amount: amount(random) },
+        Question::TakeOut { entries },
         Question::Addendum { entry },
         Question::Import { parts, room: room(random, import(parts, bytes)) },
         Question::Export { room: room(random, independent::export(bytes)) },
@@ -104,6 +126,17 @@ fn entry(random: &mut Random, bytes: &[u8]) -> u64 {
         1 => random.draw(),
         _ => random.below(bytes.len() / RECORD + 2) as u64,
     }
+}
+
+/// A list to be taken out, mostly of entries that a file of so many bytes may have.
+fn entries(random: &mut Random, bytes: &[u8]) -> Vec<u64> {
+    let records = bytes.len() / RECORD + 1;
+    let count = if random.one_in(20) { random.below(2_000) } else { random.below(6) };
+    let mut list: Vec<u64> = (0..count).map(|_| 1 + random.below(records) as u64 / 2).collect();
+    if random.one_in(4) {
+        list.push(entry(random, bytes));
+    }
+    list
 }
 
 fn amount(random: &mut Random) -> u64 {
@@ -191,83 +224,37 @@ fn flipped(random: &mut Random, bytes: &[u8]) -> Vec<u8> {
     changed
 }
 
-const GUARD: usize = 128;
-
-/// Bytes between two stretches of memory that nobody may write to.
-struct Guarded {
-    memory: Vec<u8>,
-    guard: u8,
-}
-
-impl Guarded {
-    fn new(bytes: &[u8], guard: u8) -> Self {
-        let around = [guard; GUARD];
-        Guarded { memory: [&around, bytes, &around].concat(), guard }
-    }
-
-    fn pointer(&mut self) -> *mut u8 {
-        self.bytes_mut().as_mut_ptr()
-    }
-
-    fn bytes_mut(&mut self) -> &mut [u8] {
-        let end = self.memory.len() - GUARD;
-        &mut self.memory[GUARD..end]
-    }
-
-    fn bytes(&self) -> &[u8] {
-        &self.memory[GUARD..self.memory.len() - GUARD]
-    }
-
-    fn is_whole(&self) -> bool {
-        let (front, back) = (&self.memory[..GUARD], &self.memory[self.memory.len() - GUARD..]);
-        front.iter().chain(back).all(|byte| *byte == self.guard)
-    }
-}
-
 /// What a room holds before it is lent.
 const EMPTY: u8 = 0xA5;
 const NUMBERS: usize = ACCEPTANCE_LENGTH;
 
 /// Puts a question to both sides, twice: what lies around the lent memory must not matter.
-fn ask(tally: &mut Tally, way: Way, question: Question, bytes: &[u8]) {
+fn ask(tally: &mut Tally, way: Way, question: &Question, bytes: &[u8]) {
     let about = format!("{way:?} {question:?}");
     let (answer, numbers, memory) = expected(way, question, bytes);
     for guard in [b'9', 0x5A] {
         let number = ways::number(way, tally.cases());
         let mut lent = Guarded::new(bytes, guard);
-        let mut room = Guarded::new(&vec![EMPTY; room_of(question)], guard);
+        let mut room = Guarded::new(&vec![EMPTY; question.room()], guard);
         let (given, given_numbers) = put(number, question, &mut lent, &mut room);
-        let written = match question {
-            Question::Alter { .. } => lent.bytes(),
-            _ => room.bytes(),
-        };
+        let written = if question.changes_the_file() { lent.content() } else { room.content() };
         let given = Outcome { answer: given, numbers: given_numbers, memory: written };
         tally.compare(&about, bytes, given, Outcome { answer, numbers, memory: &memory });
         let whole = lent.is_whole() && room.is_whole();
-        let kept = matches!(question, Question::Alter { .. }) || lent.bytes() == bytes;
+        let kept = question.changes_the_file() || lent.content() == bytes;
         tally.holds(&format!("{about}: only lent memory is written to"), bytes, whole && kept);
-    }
-}
-
-fn room_of(question: Question) -> usize {
-    match question {
-        Question::Read { room }
-        | Question::Write { room }
-        | Question::Import { room, .. }
-        | Question::Export { room } => room,
-        _ => 0,
     }
 }
 
 /// The boundary's answer and the numbers that it leaves.
 fn put(
     way: u64,
-    question: Question,
-    lent: &mut Guarded,
-    room: &mut Guarded,
+    question: &Question,
+    lent: &mut Guarded<u8>,
+    room: &mut Guarded<u8>,
 ) -> (u64, [u64; NUMBERS]) {
-    let (file, length) = (lent.pointer(), lent.bytes().len());
-    let (space, size) = (room.pointer(), room.bytes().len());
+    let (file, length) = (lent.pointer(), lent.content().len());
+    let (space, size) = (room.pointer(), room.content().len());
     let mut numbers = [PATTERN; NUMBERS];
     let [first, second, ..] = &mut numbers;
     // SAFETY: the pointers are to as many bytes and numbers as the calls are told, and apart.
@@ -276,10 +263,13 @@ fn put(
             Question::Check => ach_check(way, file, length, numbers.as_mut_ptr()),
             Question::Read { .. } => ach_read(way, file, length, space, size, first),
             Question::Write { .. } => ach_write(way, file, length, space, size, first),
-            Question::Addendum { entry } => ach_addendum(way, file, length, entry, first, second),
+            Question::Addendum { entry } => ach_addendum(way, file, length, *entry, first, second),
             Question::Export { .. } => ach_export(file, length, space, size, first),
+            Question::TakeOut { entries } => {
+                ach_take_out(way, file, length, entries.as_ptr(), entries.len(), first)
+            }
             Question::Import { parts, .. } => {
-                let [file_row, batch_row, lines] = parts.split(lent.bytes());
+                let [file_row, batch_row, lines] = parts.split(lent.content());
                 let (one, other) = (file_row.as_ptr(), batch_row.as_ptr());
                 let (one_length, other_length) = (file_row.len(), batch_row.len());
                 let (list, n) = (lines.as_ptr(), lines.len());
@@ -287,7 +277,7 @@ fn put(
             }
             Question::Alter { entry, amount } => {
                 let mut difference = PATTERN as i64;
-                let answer = ach_alter(way, file, length, entry, amount, &mut difference);
+                let answer = ach_alter(way, file, length, *entry, *amount, &mut difference);
                 *first = difference as u64;
                 answer
             }
@@ -299,8 +289,9 @@ fn put(
 type Expected = (u64, [u64; NUMBERS], Vec<u8>);
 
 /// What the independent implementation makes of the question.
-fn expected(way: Way, question: Question, bytes: &[u8]) -> Expected {
-    let mut memory = vec![EMPTY; room_of(question)];
+fn expected(way: Way, question: &Question, bytes: &[u8]) -> Expected {
+    let mut memory =
+        if question.changes_the_file() { bytes.to_vec() } else { vec![EMPTY; question.room()] };
     let length = |length: usize| vec![length as u64];
     let outcome = match question {
         Question::Check => independent::check(way, bytes).map(|held| numbers_of(&held).to_vec()),
@@ -312,11 +303,13 @@ fn expected(way: Way, question: Question, bytes: &[u8]) -> Expected {
             independent::import_into(file_row, batch_row, lines, &mut memory).map(length)
         }
         Question::Alter { entry, amount } => {
-            memory = bytes.to_vec();
-            let altered = independent::alter(way, &mut memory, entry, amount);
+            let altered = independent::alter(way, &mut memory, *entry, *amount);
             altered.map(|difference| vec![difference as u64])
         }
-        Question::Addendum { entry } => independent::addendum(way, bytes, entry)
+        Question::TakeOut { entries } => {
+            independent::take_out(way, &mut memory, entries).map(length)
+        }
+        Question::Addendum { entry } => independent::addendum(way, bytes, *entry)
             .map(|(start, length)| vec![start as u64, length as u64]),
     };
     let mut numbers = [PATTERN; NUMBERS];
@@ -348,6 +341,8 @@ fn relations(tally: &mut Tally, random: &mut Random, asked: Way, bytes: &[u8]) {
             tally.holds("read and written again", bytes, again.as_deref() == Ok(bytes));
             let (entry, amount) = (entry(random, bytes), amount(random));
             tally.holds("altered", bytes, alteration_fits(way, bytes, entry, amount));
+            let list = entries(random, bytes);
+            tally.holds("taken out", bytes, taking_out_fits(way, bytes, &list));
         }
         Err(refusal) => tally.holds("refused alike", bytes, refused_alike(way, bytes, refusal)),
     }
@@ -368,6 +363,7 @@ fn refused_alike(way: ach::Way, bytes: &[u8], refusal: Refusal) -> bool {
     let mut lent = bytes.to_vec();
     ach::table_of(way, bytes) == Err(refusal)
         && ach::alter(way, &mut lent, 1, 1) == Err(refusal)
+        && ach::take_out(way, &mut lent, &[1]) == Err(refusal)
         && ach::addendum(way, bytes, 1) == Err(refusal)
         && lent == bytes
 }
@@ -384,4 +380,18 @@ fn alteration_fits(way: ach::Way, bytes: &[u8], entry: u64, amount: u64) -> bool
     let money = |held: ach::Acceptance| held.credit as i64 + held.debit as i64;
     let back = ach::alter(way, &mut file, entry, (amount as i64 - difference) as u64);
     money(after) - money(before) == difference && back == Ok(-difference) && file == bytes
+}
+
+/// With entries taken out, a file is the one that is written from the table without their rows.
+fn taking_out_fits(way: ach::Way, bytes: &[u8], list: &[u64]) -> bool {
+    let mut file = bytes.to_vec();
+    let Ok(length) = ach::take_out(way, &mut file, list) else {
+        return file == bytes;
+    };
+    let Ok(table) = ach::table_of(way, bytes) else {
+        return false;
+    };
+    let rest = without_entries(&table, list);
+    ach::file_of(way, &rest).as_deref() == Ok(&file[..length])
+        && file[length..].iter().all(|byte| *byte == b' ')
 }

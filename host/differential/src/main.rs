@@ -1,7 +1,7 @@
-//! `differential check | readwrite | alter | lines | longlines | fuzz SECONDS`: puts the same cases
-//! to the proved library and to the independent implementation, and ends with a line of how many
-//! there were and how many differed. Files are put to them in both ways; the same records in both
-//! ways have to be answered alike.
+//! `differential check | readwrite | alter | takeout | lines | longlines | fuzz SECONDS`: puts the
+//! same cases to the proved library and to the independent implementation, and ends with a line of
+//! how many there were and how many differed. Files are put to them in both ways; the same records
+//! in both ways have to be answered alike.
 //!
 //! ACH_SEED chooses other random cases, ACH_CASES how many of them there are. A fuzz run without
 //! ACH_SEED takes another seed each time, and prints it.
@@ -9,9 +9,11 @@
 mod alter;
 mod check;
 mod fuzz;
+mod guard;
 mod lines;
 mod read_write;
 mod rooms;
+mod take_out;
 mod tally;
 mod ways;
 
@@ -38,11 +40,12 @@ fn main() -> ExitCode {
         ("check", None) => check::compare,
         ("readwrite", None) => read_write::compare,
         ("alter", None) => alter::compare,
+        ("takeout", None) => take_out::compare,
         ("lines", None) => lines::compare,
         ("longlines", None) => lines::compare_longest,
         ("fuzz", Some(_)) => fuzz::compare,
         _ => {
-            let parts = "check | readwrite | alter | lines | longlines | fuzz SECONDS";
+            let parts = "check | readwrite | alter | takeout | lines | longlines | fuzz SECONDS";
             eprintln!("usage: differential {parts}");
             return ExitCode::from(2);
         }

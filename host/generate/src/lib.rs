@@ -10,6 +10,7 @@ pub mod lines;
 pub mod lists;
 mod plan;
 mod random;
+pub mod recalls;
 mod shapes;
 pub mod tables;
 

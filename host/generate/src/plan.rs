@@ -2,6 +2,7 @@
 
 use crate::lines::lined;
 use crate::RECORD;
+use std::collections::BTreeSet;
 
 #[derive(Clone, Debug)]
 pub struct Plan {
@@ -82,6 +83,22 @@ impl Plan {
         table += &format!("{:06}", addenda().count());
         table.extend(addenda().map(|text| format!("{text:<80}")));
         table.into_bytes()
+    }
+
+    /// The plan without these entries, which are counted from 1 through the file, and without the
+    /// batches that are left empty. All else stays, traces and batch numbers too.
+    pub fn without(&self, entries: &[u64]) -> Plan {
+        let gone: BTreeSet<&u64> = entries.iter().collect();
+        let mut rest = self.clone();
+        let mut number = 0;
+        for batch in &mut rest.batches {
+            batch.entries.retain(|_| {
+                number += 1;
+                !gone.contains(&number)
+            });
+        }
+        rest.batches.retain(|batch| !batch.entries.is_empty());
+        rest
     }
 
     pub fn entry_count(&self) -> usize {

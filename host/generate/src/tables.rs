@@ -1,7 +1,8 @@
-//! Damage to pay tables.
+//! Pay tables: their parts, damage to them, and rows taken out of them.
 
 use crate::damage::BORDER_BYTES;
 use crate::random::Random;
+use std::collections::BTreeSet;
 use std::ops::Range;
 
 pub const COUNT: usize = 6;
@@ -147,6 +148,39 @@ pub fn with_last_entry_repeated(table: &[u8], times: usize) -> Vec<u8> {
         changed[count].copy_from_slice(format!("{more:06}").as_bytes());
     }
     changed
+}
+
+/// A table of right shape without the rows of these entries, which are counted from 1, and of their
+/// addenda, and without the batches that are left empty.
+pub fn without_entries(table: &[u8], gone: &[u64]) -> Vec<u8> {
+    let gone: BTreeSet<&u64> = gone.iter().collect();
+    let [header, batches, entries, addenda] = Sections::of(table).rows;
+    let mut texts = table[addenda].chunks(ADDENDUM_ROW);
+    let mut rows = table[entries].chunks(ENTRY_ROW).zip(1..);
+    let (mut kept_batches, mut kept_entries, mut kept_texts) = (Vec::new(), Vec::new(), Vec::new());
+    for batch in table[batches].chunks(BATCH_ROW) {
+        let (columns, count) = batch.split_at(BATCH_ROW - COUNT);
+        let before = kept_entries.len();
+        for (row, entry) in rows.by_ref().take(number(count)) {
+            let text = if row[FLAG] == b'1' { texts.next() } else { None };
+            if !gone.contains(&entry) {
+                kept_entries.push(row);
+                kept_texts.extend(text);
+            }
+        }
+        if kept_entries.len() > before {
+            let count = format!("{:06}", kept_entries.len() - before);
+            kept_batches.push([columns, count.as_bytes()].concat());
+        }
+    }
+    let counted = |rows: usize, bytes: Vec<u8>| [format!("{rows:06}").into_bytes(), bytes].concat();
+    [
+        table[..header.end].to_vec(),
+        counted(kept_batches.len(), kept_batches.concat()),
+        counted(kept_entries.len(), kept_entries.concat()),
+        counted(kept_texts.len(), kept_texts.concat()),
+    ]
+    .concat()
 }
 
 /// A table of right shape with so many batches and not an entry in them.

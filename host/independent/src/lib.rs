@@ -1,4 +1,5 @@
-//! Checking, reading, writing and altering ACH payment files, and client lists, in plain Rust.
+//! Checking, reading, writing and altering ACH payment files, taking entries out of them, and client
+//! lists, in plain Rust.
 //!
 //! Written from the scope paper and its change requests alone. The proved library of Qalarimo ACH is tested against this
 //! crate, and timed against it, so nothing here is taken from there.
@@ -12,6 +13,7 @@ mod layout;
 mod outcome;
 mod records;
 mod table;
+mod take_out;
 
 pub use alter::{addendum, alter};
 pub use check::check;
@@ -19,3 +21,4 @@ pub use comma::{export, export_into, import, import_into};
 pub use outcome::{line, reason, Acceptance, Refusal};
 pub use records::Way;
 pub use table::{read, read_into, write, write_into};
+pub use take_out::take_out;

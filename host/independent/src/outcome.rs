@@ -28,6 +28,7 @@ pub mod reason {
     pub const TABLE_SHAPE: u8 = 24;
     pub const NO_SUCH_ENTRY: u8 = 25;
     pub const LINE_END: u8 = 26;
+    pub const NO_ENTRY_LEFT: u8 = 27;
     /// These three are of a client's list, and its line stands for the record.
     pub const NO_LINE: u8 = 29;
     pub const LINE_AMOUNT: u8 = 30;

@@ -196,8 +196,9 @@ fn has_addendum(entry_row: &[u8; ENTRY_ROW]) -> bool {
 
 /// What the controls of a batch or of the file say.
 #[derive(Clone, Copy, Default)]
-struct Controls {
-    count: u64,
+pub struct Controls {
+    /// 6 and 7 records together.
+    pub count: u64,
     hash: u64,
     debit: u64,
     credit: u64,
@@ -283,10 +284,7 @@ impl Former {
         let mut record = blank_record(b'8');
         let header = &self.batch_header;
         CLASS.put(&mut record, batch_header::CLASS.of(header));
-        COUNT.put_number(&mut record, self.batch.count);
-        HASH.put_number(&mut record, self.batch.hash);
-        DEBIT.put_number(&mut record, self.batch.debit);
-        CREDIT.put_number(&mut record, self.batch.credit);
+        self.batch.put_in_batch(&mut record);
         COMPANY_ID.put(&mut record, batch_header::COMPANY_ID.of(header));
         ORIGINATOR.put(&mut record, batch_header::ORIGINATOR.of(header));
         BATCH_NUMBER.put(&mut record, batch_header::BATCH_NUMBER.of(header));
@@ -294,16 +292,10 @@ impl Former {
     }
 
     fn file_control(&mut self) {
-        use file_control::*;
         let mut record = blank_record(b'9');
         let record_number = self.file.len() / self.way.record_length() + 1;
         let blocks = record_number.div_ceil(RECORDS_IN_BLOCK);
-        BATCHES.put_number(&mut record, self.batches);
-        BLOCKS.put_number(&mut record, blocks as u64);
-        COUNT.put_number(&mut record, self.whole.count);
-        HASH.put_number(&mut record, self.whole.hash);
-        DEBIT.put_number(&mut record, self.whole.debit);
-        CREDIT.put_number(&mut record, self.whole.credit);
+        self.whole.put_in_file(&mut record, self.batches, blocks as u64);
         self.push(&record);
         for _ in record_number..blocks * RECORDS_IN_BLOCK {
             self.push(&FILLER);
@@ -314,7 +306,7 @@ impl Former {
 impl Controls {
     /// An entry that is itself at fault is refused before any control is looked at, so what it
     /// adds does not matter.
-    fn add_entry(&mut self, record: &Record) {
+    pub fn add_entry(&mut self, record: &Record) {
         let amount = number_or_zero(record, entry::AMOUNT);
         self.count += 1;
         self.hash += number_or_zero(record, entry::ROUTING);
@@ -323,6 +315,24 @@ impl Controls {
             Some(Side::Credit) => self.credit += amount,
             None => (),
         }
+    }
+
+    pub fn put_in_batch(&self, record: &mut Record) {
+        use batch_control::*;
+        COUNT.put_number(record, self.count);
+        HASH.put_number(record, self.hash);
+        DEBIT.put_number(record, self.debit);
+        CREDIT.put_number(record, self.credit);
+    }
+
+    pub fn put_in_file(&self, record: &mut Record, batches: u64, blocks: u64) {
+        use file_control::*;
+        BATCHES.put_number(record, batches);
+        BLOCKS.put_number(record, blocks);
+        COUNT.put_number(record, self.count);
+        HASH.put_number(record, self.hash);
+        DEBIT.put_number(record, self.debit);
+        CREDIT.put_number(record, self.credit);
     }
 }
 

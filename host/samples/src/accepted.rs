@@ -108,6 +108,12 @@ pub fn gaps() -> Plan {
     plan
 }
 
+/// What is left of `gaps` when a client recalls four of its payments: two of the first batch, and
+/// both of the second, which goes with them.
+pub fn recalled() -> Plan {
+    gaps().without(&[2, 3, 5, 6])
+}
+
 /// Members of a credit union, whose account numbers have letters: among digits and hyphens, alone,
 /// and in all columns.
 pub fn union() -> Plan {

@@ -41,6 +41,7 @@ fn plans() -> Vec<(&'static str, Plan)> {
         ("staff", accepted::staff()),
         ("taxes", accepted::taxes()),
         ("gaps", accepted::gaps()),
+        ("recalled", accepted::recalled()),
         ("union", accepted::union()),
         ("team", accepted::team()),
     ]

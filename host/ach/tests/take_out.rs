@@ -1,0 +1,106 @@
+//! Taking entries out through the safe function: what is left, the blanks, and the refusals.
+
+use ach::{Refusal, Way};
+use generate::recalls::random_recall;
+use generate::tables::without_entries;
+use generate::{plan, Random};
+
+const GAPS: &[u8] = include_bytes!("../../../samples/gaps.ach");
+const GAPS_LINED: &[u8] = include_bytes!("../../../samples/gaps-lined.ach");
+const RECALLED: &[u8] = include_bytes!("../../../samples/recalled.ach");
+
+#[test]
+fn four_payments_are_recalled() {
+    for (way, lent, rest) in [
+        (Way::Plain, GAPS, RECALLED.to_vec()),
+        (Way::Lined, GAPS_LINED, generate::lines::lined(RECALLED)),
+    ] {
+        let mut file = lent.to_vec();
+        let length = ach::take_out(way, &mut file, &[2, 3, 5, 6]).unwrap();
+        assert_eq!(file[..length], rest);
+        assert!(file[length..].iter().all(|byte| *byte == b' '));
+        let held = ach::check(way, &rest).unwrap();
+        assert_eq!((held.batches, held.entries, held.credit), (1, 2, 329_610));
+    }
+}
+
+#[test]
+fn a_list_of_none_changes_nothing() {
+    let mut file = GAPS.to_vec();
+    assert_eq!(ach::take_out(Way::Plain, &mut file, &[]), Ok(GAPS.len()));
+    assert_eq!(file, GAPS);
+}
+
+/// The list is longer than the file, and it is only read.
+#[test]
+fn order_and_repeats_do_not_matter() {
+    let list = [6, 3, 5, 2].repeat(1_000);
+    let mut file = GAPS.to_vec();
+    assert_eq!(ach::take_out(Way::Plain, &mut file, &list), Ok(RECALLED.len()));
+    assert_eq!(&file[..RECALLED.len()], RECALLED);
+    assert_eq!(list, [6, 3, 5, 2].repeat(1_000));
+}
+
+#[test]
+fn a_refusal_leaves_the_file() {
+    for (list, number) in [
+        (&[0][..], 25),
+        (&[7], 25),
+        (&[u64::MAX], 25),
+        (&[1 << 32 | 1], 25),
+        (&[1, 2, 7, 3], 25),
+        (&[1, 2, 3, 4, 5, 6], 27),
+        (&[6, 5, 4, 3, 2, 1, 1], 27),
+        // The bad number comes first, wherever it stands.
+        (&[1, 2, 3, 4, 5, 6, 0], 25),
+    ] {
+        for (way, lent) in [(Way::Plain, GAPS), (Way::Lined, GAPS_LINED)] {
+            let mut file = lent.to_vec();
+            let refusal = Refusal::without_place(number);
+            assert_eq!(ach::take_out(way, &mut file, list), Err(refusal), "{list:?}");
+            assert_eq!(file, lent);
+        }
+    }
+}
+
+#[test]
+fn the_files_own_refusal_comes_first() {
+    for list in [&[][..], &[0], &[1], &[1, 2, 3, 4, 5, 6]] {
+        for (way, lent, expected) in [
+            (Way::Plain, b"".as_slice(), Refusal::without_place(1)),
+            (Way::Plain, GAPS_LINED, Refusal::without_place(1)),
+            (Way::Plain, &GAPS[..94], Refusal { number: 2, record: 2, field: 0 }),
+        ] {
+            let mut file = lent.to_vec();
+            assert_eq!(ach::take_out(way, &mut file, list), Err(expected));
+            assert_eq!(file, lent);
+        }
+    }
+}
+
+/// The result is the file written from the table without those rows.
+#[test]
+fn it_is_the_file_of_the_table_without_the_rows() {
+    let mut random = Random::new(6);
+    let mut granted = 0;
+    for _ in 0..300 {
+        let plan = plan(&mut random, 4, 6);
+        let list = random_recall(&mut random, &plan);
+        for (way, mut file) in [(Way::Plain, plan.file()), (Way::Lined, plan.lined_file())] {
+            let table = ach::table_of(way, &file).unwrap();
+            if let Ok(length) = ach::take_out(way, &mut file, &list) {
+                let rest = without_entries(&table, &list);
+                assert_eq!(ach::file_of(way, &rest).as_deref(), Ok(&file[..length]));
+                assert_eq!(ach::table_of(way, &file[..length]), Ok(rest));
+                granted += 1;
+            }
+        }
+    }
+    assert!(granted > 300, "{granted}");
+}
+
+#[test]
+fn a_refusal_speaks() {
+    let refusal = ach::take_out(Way::Plain, &mut GAPS.to_vec(), &[1, 2, 3, 4, 5, 6]).unwrap_err();
+    assert_eq!(refusal.to_string(), "refusal 27: no entry would be left");
+}

@@ -1,0 +1,30 @@
+//! Lent memory between guards.
+
+const GUARD: usize = 128;
+
+/// Bytes or numbers between two stretches of memory that nobody may write to.
+pub struct Guarded<T> {
+    memory: Vec<T>,
+    guard: T,
+}
+
+impl<T: Copy + PartialEq> Guarded<T> {
+    pub fn new(content: &[T], guard: T) -> Self {
+        let around = [guard; GUARD];
+        Guarded { memory: [&around, content, &around].concat(), guard }
+    }
+
+    pub fn pointer(&mut self) -> *mut T {
+        let end = self.memory.len() - GUARD;
+        self.memory[GUARD..end].as_mut_ptr()
+    }
+
+    pub fn content(&self) -> &[T] {
+        &self.memory[GUARD..self.memory.len() - GUARD]
+    }
+
+    pub fn is_whole(&self) -> bool {
+        let (front, back) = (&self.memory[..GUARD], &self.memory[self.memory.len() - GUARD..]);
+        front.iter().chain(back).all(|item| *item == self.guard)
+    }
+}
