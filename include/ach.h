@@ -1,6 +1,6 @@
 /*
  * Qalarimo ACH: payment files of PPD and CCD entries.
- * Link with libach_c.a; it needs nothing but memcpy.
+ * Link with libach_c.a; it needs nothing but memcpy and memset.
  *
  * A file is records of 94 columns, in one of two ways: back to back, without
  * line ends, or with CR LF behind every record, fillers and the last record
@@ -149,6 +149,9 @@ uint64_t ach_alter(uint64_t way, uint8_t *file, size_t n, uint64_t entry,
  * numbers at all are granted and change nothing. Refused: the file's own, 25 if
  * any of the numbers is no entry's, 27 if no entry would be left. The numbers
  * are only read. `entries` may be null if count is 0.
+ *
+ * It keeps a byte for each entry that a file can have on the stack, a million in
+ * all: a thread that calls it needs more stack than that.
  */
 uint64_t ach_take_out(uint64_t way, uint8_t *file, size_t n,
                       const uint64_t *entries, size_t count, uint64_t *length);

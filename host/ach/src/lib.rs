@@ -244,6 +244,8 @@ pub fn alter(way: Way, file: &mut [u8], entry: u64, amount: u64) -> Result<i64, 
 /// The result is the file of the pay table without those rows; traces and batch numbers stay. The
 /// numbers may stand in any order, and repeats count once. At least one entry has to be left.
 ///
+/// It keeps a million bytes on the stack: the calling thread needs more than that.
+///
 /// ```
 /// use ach::Way;
 ///
