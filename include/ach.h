@@ -71,6 +71,8 @@ extern "C" {
  *  13 bank begins with 4 to 9        26 record not followed by CR LF
  *
  *  27 no entry would be left
+ *  28 zero-dollar remittance in a PPD batch (field 2) or without an addendum
+ *     (field 10)
  *  29 line of a list is not six fields in the grammar of RFC 4180
  *  30 amount of a line not in its form, or over 9,999,999,999 cents
  *  32 another field of a line too long for its columns
@@ -81,6 +83,18 @@ extern "C" {
  * second way alone, with field 0: after all fields of its record, and before
  * everything of the next one. The record that 4 names is not looked at. 27 is
  * given by ach_take_out alone, 29, 30 and 32 by ach_import alone.
+ *
+ * The known codes of entries are
+ *
+ *                            checking          savings
+ *                            credit   debit    credit   debit
+ *   payment                  22       27       32       37
+ *   prenote                  23       28       33       38
+ *   zero-dollar remittance   24       29       34       39
+ *
+ * A payment has 1 to 9,999,999,999 cents, the others have 0 (else 14). What is
+ * sent for its remittance text alone stands in a CCD batch and has an addendum
+ * (else 28).
  */
 
 /* Where the numbers of an acceptance stand. */
@@ -89,9 +103,10 @@ extern "C" {
 #define ACH_ADDENDA  2
 #define ACH_DEBIT    3 /* in cents */
 #define ACH_CREDIT   4 /* in cents */
-#define ACH_BY_CODE  5 /* 16 numbers: how many entries and how many cents, for
-                          the codes 22, 23, 27, 28, 32, 33, 37, 38 in turn */
-#define ACH_ACCEPTANCE_LENGTH 21
+#define ACH_BY_CODE  5 /* 24 numbers: how many entries and how many cents, for
+                          the codes 22, 23, 24, 27, 28, 29, 32, 33, 34, 37, 38,
+                          39 in turn */
+#define ACH_ACCEPTANCE_LENGTH 29
 
 /*
  * Checks the file of n bytes at `file`. Stops at the first fault. Granted, it
@@ -130,8 +145,9 @@ uint64_t ach_write(uint64_t way, const uint8_t *table, size_t n, uint8_t *file,
  * file) of an accepted file, with the totals of its side in the batch's and
  * the file's control; no other byte changes. `difference` is the new amount
  * less the old. Refused: the file's own, 25 no such entry, 14 an amount that
- * the code does not carry (at the entry's record), 20 a total that would pass
- * 999,999,999,999 cents (at the batch's control, then at the file's).
+ * the code does not carry (at the entry's record; a prenote and a remittance
+ * carry 0 alone), 20 a total that would pass 999,999,999,999 cents (at the
+ * batch's control, then at the file's).
  */
 uint64_t ach_alter(uint64_t way, uint8_t *file, size_t n, uint64_t entry,
                    uint64_t amount, int64_t *difference);
@@ -189,7 +205,8 @@ uint64_t ach_addendum(uint64_t way, const uint8_t *file, size_t n,
  * field 4 and 32 for the others; lengths count after the quotes are taken off,
  * and nothing is trimmed. Then comes 24, for a row of the wrong length or more
  * than 999,999 lines, then the refusals of the file that would be formed, where
- * line k is record k + 2, and last 23.
+ * line k is record k + 2, and last 23. A zero-dollar remittance, which has an
+ * addendum, cannot be imported (28).
  *
  * Granted, the table stands in front, `length` is how many bytes it has, and the
  * bytes behind it stay. It has 204 + 93 * lines bytes; a line that is granted has

@@ -22,6 +22,17 @@ static void print_refusal(const char *what, uint64_t answer)
            ACH_NUMBER(answer), ACH_RECORD(answer), ACH_FIELD(answer));
 }
 
+/* Of the rows by code, those with entries. */
+static void print_rows(const uint64_t *rows)
+{
+    static const unsigned codes[] = {22, 23, 24, 27, 28, 29,
+                                     32, 33, 34, 37, 38, 39};
+    for (size_t row = 0; row < sizeof codes / sizeof codes[0]; row++)
+        if (rows[2 * row] != 0)
+            printf("  code %u: %" PRIu64 " entries, %" PRIu64 " cents\n",
+                   codes[row], rows[2 * row], rows[2 * row + 1]);
+}
+
 static void print_check(uint64_t way, size_t n)
 {
     uint64_t held[ACH_ACCEPTANCE_LENGTH];
@@ -34,6 +45,7 @@ static void print_check(uint64_t way, size_t n)
            " addenda, debit %" PRIu64 ", credit %" PRIu64 " cents\n",
            held[ACH_BATCHES], held[ACH_ENTRIES], held[ACH_ADDENDA],
            held[ACH_DEBIT], held[ACH_CREDIT]);
+    print_rows(held + ACH_BY_CODE);
 }
 
 static void print_alteration(uint64_t way, size_t n, uint64_t entry,
@@ -177,5 +189,7 @@ int main(int count, char **arguments)
     printf("a list\n");
     print_list("22,322070381,4410-22871,0100.00,E-1001,\"MARLOWE, ADA\"");
     print_list("22,322070381,4410-22871,100,E-1001,\"MARLOWE, ADA\"");
+    /* A zero-dollar remittance has an addendum, and a list has none. */
+    print_list("24,322070381,4410-22871,0.00,E-1001,\"MARLOWE, ADA\"");
     return 0;
 }

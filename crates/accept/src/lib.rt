@@ -28,7 +28,7 @@ fn refused(fault: Fault, number: u64, k: u64) -> Checked
         addenda: 0,
         debit: 0,
         credit: 0,
-        bycode: [0u64; 16],
+        bycode: [0u64; 24],
     }
 }
 

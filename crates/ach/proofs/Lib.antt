@@ -1,4 +1,5 @@
 pub mod Earlier
+pub mod EarlierRows
 pub mod Bounds
 pub mod First
 pub mod Grants

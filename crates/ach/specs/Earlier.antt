@@ -1,11 +1,11 @@
--- The rules as they stood before a request. "What one state accepts, the next accepts, with the same counts and totals" can be said
--- only of both.
+-- The rules as they stood before a request, from the last request that moved them to the first. "What one state accepts, the next
+-- accepts, with the same counts and totals" can be said only of both.
 use Prim.Native.Nat.{ℕ, _+_}
 use mathlib.Core.Bool.{Bool, _&&_, _||_, not}
 use mathlib.Core.List.{List, [], _∷_, map}
 use lib.Dec.{leb, eqb}
-use lib.ListN.{length}
-use Rattle.text.specs.Decimal.{pick, every, isDigit, digits}
+use lib.ListN.{length, getD}
+use Rattle.text.specs.Decimal.{pick, every, isDigit, digits, value}
 use Rattle.text.specs.Rows.{columns}
 use Rattle.text.specs.Same.{sameBytes}
 use Rattle.layout.specs.declared.Fault.{Fault}
@@ -16,10 +16,12 @@ use Rattle.layout.specs.declared.Own.{Own}
 use Rattle.layout.specs.declared.Row.{Row}
 use Rattle.layout.specs.declared.Way.{Way}
 use Rattle.layout.specs.Fields.{rowsOf, firstField}
+use Rattle.codes.specs.declared.Code.{Code}
+use Rattle.codes.specs.Codes.{codeOf, known, allowed, carries, remits}
 use Rattle.kinds.specs.declared.Mark.{Mark}
 use Rattle.kinds.specs.Kinds.{need, blank, unbroken, ownRule}
 use Rattle.near.specs.declared.Sums.{Sums}
-use Rattle.near.specs.Near.{traceBank, traceNumber, batchBank, nearRule}
+use Rattle.near.specs.Near.{entryCode, batchClass, traceBank, traceNumber, batchBank, nearRule}
 use Rattle.rules.specs.Field.{kindRule}
 use Rattle.tally.specs.declared.State.{State}
 use Rattle.records.specs.declared.Verdict.{Verdict}
@@ -70,28 +72,35 @@ kindWith near own s h r (Kind.Count t) p = kindRule s h r (Kind.Count t) p
 kindWith near own s h r (Kind.Hash t) p = kindRule s h r (Kind.Hash t) p
 kindWith near own s h r (Kind.Total t) p = kindRule s h r (Kind.Total t) p
 
--- ---- before request 2: "one more than before in each later entry"
+-- ---- before request 7: "Source 000's codes 24, 29, 34, 39 are not known here", and column 79 is asked by itself
 
-abbrev pub traceInTurn : Sums → ℕ → Bool
-traceInTurn s n = pick (eqb (s .batchrecords) 0) (leb 1 n) (eqb n (s .trace + 1))
+abbrev pub codeBefore : ℕ → Code
+codeBefore n = pick (remits (codeOf n)) Code.Unknown (codeOf n)
 
-abbrev pub traceUnskipped : Sums → List ℕ → List ℕ → Mark
-traceUnskipped s h p =
+abbrev pub codeUnremitted : List ℕ → List ℕ → Mark
+codeUnremitted h p =
     need (digits p) Fault.Digits
-    (need (sameBytes (traceBank p) (batchBank h) && traceInTurn s (traceNumber p)) Fault.Trace Mark.Right)
+    (need (known (codeBefore (value p))) Fault.Value (need (allowed (batchClass h) (codeBefore (value p))) Fault.Side Mark.Right))
 
-abbrev pub nearUnskipped : Sums → List ℕ → List ℕ → Near → List ℕ → Mark
-nearUnskipped s h r Near.Code p = nearRule s h r Near.Code p
-nearUnskipped s h r Near.CheckDigit p = nearRule s h r Near.CheckDigit p
-nearUnskipped s h r Near.Amount p = nearRule s h r Near.Amount p
-nearUnskipped s h r Near.Trace p = traceUnskipped s h p
-nearUnskipped s h r Near.EntryTrace p = nearRule s h r Near.EntryTrace p
-nearUnskipped s h r Near.BatchNumber p = nearRule s h r Near.BatchNumber p
+abbrev pub amountUnremitted : List ℕ → List ℕ → Mark
+amountUnremitted r p = need (digits p) Fault.Digits (need (carries (codeBefore (entryCode r)) (value p)) Fault.Amount Mark.Right)
 
-abbrev pub unskipped : Rule
-unskipped s h r row = kindWith (nearUnskipped s h r) ownRule s h r (row .kind) (columns (row .first) (row .last) r)
+abbrev pub flagUnremitted : List ℕ → Mark
+flagUnremitted p = need (eqb (getD p 0 0) 48 || eqb (getD p 0 0) 49) Fault.Value Mark.Right
 
--- ---- before request 3: no letters in an account
+abbrev pub nearUnremitted : Sums → List ℕ → List ℕ → Near → List ℕ → Mark
+nearUnremitted s h r Near.Code p = codeUnremitted h p
+nearUnremitted s h r Near.CheckDigit p = nearRule s h r Near.CheckDigit p
+nearUnremitted s h r Near.Amount p = amountUnremitted r p
+nearUnremitted s h r Near.Trace p = nearRule s h r Near.Trace p
+nearUnremitted s h r Near.EntryTrace p = nearRule s h r Near.EntryTrace p
+nearUnremitted s h r Near.BatchNumber p = nearRule s h r Near.BatchNumber p
+nearUnremitted s h r Near.Flag p = flagUnremitted p
+
+abbrev pub unremitted : Rule
+unremitted s h r row = kindWith (nearUnremitted s h r) ownRule s h r (row .kind) (columns (row .first) (row .last) r)
+
+-- ---- before request 3: no letters in an account either
 
 abbrev pub isUnlettered : ℕ → Bool
 isUnlettered b = isDigit b || eqb b 45 || eqb b 32
@@ -109,7 +118,28 @@ ownUnlettered Own.Class p = ownRule Own.Class p
 ownUnlettered Own.EntryClass p = ownRule Own.EntryClass p
 ownUnlettered Own.Bank p = ownRule Own.Bank p
 ownUnlettered Own.Account p = accountUnlettered p
-ownUnlettered Own.Flag p = ownRule Own.Flag p
 
 abbrev pub unlettered : Rule
-unlettered s h r row = kindWith (nearRule s h r) ownUnlettered s h r (row .kind) (columns (row .first) (row .last) r)
+unlettered s h r row = kindWith (nearUnremitted s h r) ownUnlettered s h r (row .kind) (columns (row .first) (row .last) r)
+
+-- ---- before request 2: "one more than before in each later entry" as well
+
+abbrev pub traceInTurn : Sums → ℕ → Bool
+traceInTurn s n = pick (eqb (s .batchrecords) 0) (leb 1 n) (eqb n (s .trace + 1))
+
+abbrev pub traceUnskipped : Sums → List ℕ → List ℕ → Mark
+traceUnskipped s h p =
+    need (digits p) Fault.Digits
+    (need (sameBytes (traceBank p) (batchBank h) && traceInTurn s (traceNumber p)) Fault.Trace Mark.Right)
+
+abbrev pub nearUnskipped : Sums → List ℕ → List ℕ → Near → List ℕ → Mark
+nearUnskipped s h r Near.Code p = nearUnremitted s h r Near.Code p
+nearUnskipped s h r Near.CheckDigit p = nearUnremitted s h r Near.CheckDigit p
+nearUnskipped s h r Near.Amount p = nearUnremitted s h r Near.Amount p
+nearUnskipped s h r Near.Trace p = traceUnskipped s h p
+nearUnskipped s h r Near.EntryTrace p = nearUnremitted s h r Near.EntryTrace p
+nearUnskipped s h r Near.BatchNumber p = nearUnremitted s h r Near.BatchNumber p
+nearUnskipped s h r Near.Flag p = nearUnremitted s h r Near.Flag p
+
+abbrev pub unskipped : Rule
+unskipped s h r row = kindWith (nearUnskipped s h r) ownUnlettered s h r (row .kind) (columns (row .first) (row .last) r)

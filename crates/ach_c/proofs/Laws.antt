@@ -1,4 +1,4 @@
--- Why an answer's code fits, and what twenty-one stores make of a lent array.
+-- Why an answer's code fits, and what twenty-nine stores make of a lent array.
 -- Assumes nothing.
 use Prim.Native.Nat.{ℕ, _≤_}
 use mathlib.Core.Path.{_≡_, refl, sym}

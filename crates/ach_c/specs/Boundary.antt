@@ -20,7 +20,7 @@ coded p = p .number + 256 * (p .field-no % 256) + 65536 * (p .record-no % 429496
 abbrev pub codeOfAnswer : Answer → ℕ
 codeOfAnswer a = coded (paperOf a)
 
--- the twenty-one numbers: batches, entries, addenda, debit, credit, then sixteen by code
+-- the twenty-nine numbers: batches, entries, addenda, debit, credit, then twenty-four by code
 abbrev pub numbersOf : Checked → List ℕ
 numbersOf c = (c .batches ∷ c .entries ∷ c .addenda ∷ c .debit ∷ c .credit ∷ []) ++ c .bycode
 

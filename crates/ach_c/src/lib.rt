@@ -40,19 +40,19 @@ fn code_of(answer: Answer) -> u64
     }
 }
 
-// Puts the sixteen numbers by code behind the first five.
-fn put_rows(numbers: &mut [u64; 21], rows: [u64; 16])
+// Puts the twenty-four numbers by code behind the first five.
+fn put_rows(numbers: &mut [u64; 29], rows: [u64; 24])
     ensures { λ _. ⌜ now (numbers .exit) ≡ sets (now (numbers .entry)) 5 rows ⌝ }
 {
     let mut i = 0;
-    while i < 16 {
+    while i < 24 {
         numbers[5 + i] = rows[i];
         i += 1;
     }
 }
 
 #[no_mangle]
-pub extern "C" fn ach_check(way: u64, file: &[u8], acceptance: &mut [u64; 21]) -> u64
+pub extern "C" fn ach_check(way: u64, file: &[u8], acceptance: &mut [u64; 29]) -> u64
     ensures { λ r. ⌜ (r ≡ codeOfAnswer (checkedOf (wayOf way) (now (file .entry)) .answer)) × (now (acceptance .exit) ≡ numbersLeft (checkedOf (wayOf way) (now (file .entry)) .answer) (numbersOf (checkedOf (wayOf way) (now (file .entry)))) (now (acceptance .entry))) ⌝ }
 {
     let checked = ach::check(way_of(way), file);

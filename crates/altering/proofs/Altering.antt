@@ -57,6 +57,7 @@ asked-granted a t none more e h = rw (e, h)
 use-small : (u : Use) (amount : ℕ) → useCarries u amount ≡ true → amount < 10000000000
 use-small Use.Live amount e = omega (arith, leb-true amount 9999999999 (and-both (leb 1 amount) (leb amount 9999999999) e .1))
 use-small Use.Prenote amount e = omega (arith, eqb-true amount 0 e)
+use-small Use.Remittance amount e = omega (arith, eqb-true amount 0 e)
 
 -- ---- one side
 

@@ -1,7 +1,7 @@
 // The transaction codes: what each is, where it may stand and what it may carry.
 ghost use Prim.Native.Nat.{_<_};
 ghost use mathlib.Core.Path.{_≡_};
-ghost use Rattle.codes.specs.Codes.{codeOf, known, allowed, useCarries, carries, debitPart, creditPart, codeRow};
+ghost use Rattle.codes.specs.Codes.{codeOf, known, allowed, useCarries, carries, useRemits, remits, debitPart, creditPart, codeRow};
 
 // What a transaction code says.
 pub enum Code {
@@ -10,10 +10,11 @@ pub enum Code {
     Debit(Use),
 }
 
-// What an entry's code is for: live money, or a prenote that carries none.
+// What an entry's code is for: live money, or a prenote or a remittance of nothing, which carry none.
 pub enum Use {
     Live,
     Prenote,
+    Remittance,
 }
 
 pub fn code_of(n: u64) -> Code
@@ -22,8 +23,10 @@ pub fn code_of(n: u64) -> Code
     match n {
         22 | 32 => Code::Credit(Use::Live),
         23 | 33 => Code::Credit(Use::Prenote),
+        24 | 34 => Code::Credit(Use::Remittance),
         27 | 37 => Code::Debit(Use::Live),
         28 | 38 => Code::Debit(Use::Prenote),
+        29 | 39 => Code::Debit(Use::Remittance),
         _ => Code::Unknown,
     }
 }
@@ -54,6 +57,7 @@ fn use_carries(purpose: Use, amount: u64) -> bool
     match purpose {
         Use::Live => (1 <= amount) & (amount <= 9_999_999_999),
         Use::Prenote => amount == 0,
+        Use::Remittance => amount == 0,
     }
 }
 
@@ -64,6 +68,27 @@ pub fn carries(code: Code, amount: u64) -> bool
         Code::Unknown => false,
         Code::Credit(u) => use_carries(u, amount),
         Code::Debit(u) => use_carries(u, amount),
+    }
+}
+
+fn use_remits(purpose: Use) -> bool
+    ensures { λ r. ⌜ r ≡ useRemits purpose ⌝ }
+{
+    match purpose {
+        Use::Live => false,
+        Use::Prenote => false,
+        Use::Remittance => true,
+    }
+}
+
+// Whether an entry of this code carries remittance text alone.
+pub fn remits(code: Code) -> bool
+    ensures { λ r. ⌜ r ≡ remits code ⌝ }
+{
+    match code {
+        Code::Unknown => false,
+        Code::Credit(u) => use_remits(u),
+        Code::Debit(u) => use_remits(u),
     }
 }
 
@@ -89,18 +114,22 @@ pub fn credit_part(code: Code, amount: u64) -> u64
     }
 }
 
-// The row of a known code among the eight in rising order.
+// The row of a known code among the twelve in rising order.
 pub fn code_row(n: u64) -> usize
-    ensures { λ r. ⌜ (r ≡ codeRow n) × (r < 8) ⌝ }
+    ensures { λ r. ⌜ (r ≡ codeRow n) × (r < 12) ⌝ }
 {
     match n {
         22 => 0,
         23 => 1,
-        27 => 2,
-        28 => 3,
-        32 => 4,
-        33 => 5,
-        37 => 6,
-        _ => 7,
+        24 => 2,
+        27 => 3,
+        28 => 4,
+        29 => 5,
+        32 => 6,
+        33 => 7,
+        34 => 8,
+        37 => 9,
+        38 => 10,
+        _ => 11,
     }
 }

@@ -122,10 +122,6 @@ abbrev pub account : List ℕ → Mark
 account p =
     need (every isAccount p) Fault.Text (need (not (blank p)) Fault.Blank (need (unbroken p) Fault.Leading Mark.Right))
 
--- record 6, field 10: "'0' or '1' (11)"
-abbrev pub flag : List ℕ → Mark
-flag p = need (eqb (getD p 0 0) 48 || eqb (getD p 0 0) 49) Fault.Value Mark.Right
-
 abbrev pub ownRule : Own → List ℕ → Mark
 ownRule Own.Destination p = destination p
 ownRule Own.Origin p = origin p
@@ -135,4 +131,3 @@ ownRule Own.Class p = class p
 ownRule Own.EntryClass p = entryClass p
 ownRule Own.Bank p = bank p
 ownRule Own.Account p = account p
-ownRule Own.Flag p = flag p

@@ -10,7 +10,7 @@ ghost use lib.ListN.{length};
 ghost use Rattle.text.specs.Decimal.{every};
 ghost use Rattle.layout.specs.Fits.{ownFits};
 ghost use Rattle.groups.specs.Groups.{groupSums};
-ghost use Rattle.kinds.specs.Kinds.{realTime, time, destination, origin, modifier, class, entryClass, bank, isAccount, unbroken, account, flag, ownRule};
+ghost use Rattle.kinds.specs.Kinds.{realTime, time, destination, origin, modifier, class, entryClass, bank, isAccount, unbroken, account, ownRule};
 
 fn real_time(hour: u64, minute: u64) -> bool
     ensures { λ r. ⌜ r ≡ realTime hour minute ⌝ }
@@ -161,16 +161,6 @@ pub fn account(p: &[u8]) -> Mark
     Mark::Right
 }
 
-pub fn flag(p: &[u8]) -> Mark
-    ensures { λ r. ⌜ r ≡ flag (now (p .entry)) ⌝ }
-{
-    let b = texts::first(p);
-    if (b == 48) | (b == 49) {
-        return Mark::Right;
-    }
-    Mark::Wrong(Fault::Value)
-}
-
 // A field with a rule of its own.
 pub fn own(groups: &[u8; 1000], o: Own, p: &[u8]) -> Mark
     requires { ⌜ (ownFits o (length (now p)) ≡ true) × (now groups ≡ groupSums) ⌝ }
@@ -185,6 +175,5 @@ pub fn own(groups: &[u8; 1000], o: Own, p: &[u8]) -> Mark
         Own::EntryClass => entry_class(p),
         Own::Bank => bank(p),
         Own::Account => account(p),
-        Own::Flag => flag(p),
     }
 }

@@ -71,7 +71,7 @@ entry =
     ∷ row 40 54 Kind.Optional
     ∷ row 55 76 Kind.Mandatory
     ∷ row 77 78 Kind.Optional
-    ∷ row 79 79 (Kind.Own Own.Flag)
+    ∷ row 79 79 (Kind.Near Near.Flag)
     ∷ row 80 94 (Kind.Near Near.Trace)
     ∷ []
 

@@ -21,7 +21,6 @@ ownFits Own.Class w = numberWide w
 ownFits Own.EntryClass w = true
 ownFits Own.Bank w = true
 ownFits Own.Account w = true
-ownFits Own.Flag w = true
 
 abbrev pub nearFits : Near → ℕ → Bool
 nearFits Near.Code w = numberWide w
@@ -30,6 +29,7 @@ nearFits Near.Amount w = numberWide w
 nearFits Near.Trace w = eqb w 15
 nearFits Near.EntryTrace w = numberWide w
 nearFits Near.BatchNumber w = numberWide w
+nearFits Near.Flag w = eqb w 1
 
 abbrev pub kindFits : Kind → ℕ → Bool
 kindFits Kind.Type w = true

@@ -59,6 +59,8 @@ numberOf Fault.NoEntry = 25
 numberOf Fault.LineEnd = 26
 -- no entry would be left
 numberOf Fault.NoneLeft = 27
+-- a zero-dollar code in a PPD batch, or without the addendum
+numberOf Fault.Remittance = 28
 -- a line that is not six fields in the RFC's grammar
 numberOf Fault.Comma = 29
 -- a line's amount not in its form or over 9,999,999,999 cents

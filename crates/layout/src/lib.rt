@@ -48,6 +48,7 @@ pub enum Fault {
     NoEntry,
     LineEnd,
     NoneLeft,
+    Remittance,
     Comma,
     Cents,
     Long,
@@ -72,7 +73,7 @@ pub struct Checked {
     pub addenda: u64,
     pub debit: u64,
     pub credit: u64,
-    pub bycode: [u64; 16],
+    pub bycode: [u64; 24],
 }
 
 // What reading and writing give: the result's length, 0 on a refusal.
@@ -110,7 +111,6 @@ pub enum Own {
     EntryClass,
     Bank,
     Account,
-    Flag,
 }
 
 // A rule that looks at another field or at an earlier record.
@@ -121,6 +121,7 @@ pub enum Near {
     Trace,
     EntryTrace,
     BatchNumber,
+    Flag,
 }
 
 // A sum that a control record repeats.
@@ -349,7 +350,7 @@ const ENTRY: [Row; 11] = [
     Row {
         first: 79,
         last: 79,
-        kind: Kind::Own(Own::Flag),
+        kind: Kind::Near(Near::Flag),
     },
     Row {
         first: 80,
@@ -676,6 +677,7 @@ pub fn number_of(fault: Fault) -> u64
         Fault::NoEntry => 25,
         Fault::LineEnd => 26,
         Fault::NoneLeft => 27,
+        Fault::Remittance => 28,
         Fault::Comma => 29,
         Fault::Cents => 30,
         Fault::Long => 32,

@@ -1,15 +1,17 @@
 -- What records say by the fields' numbers, and the rules that look at another field or an earlier record.
 use Prim.Native.Nat.{ℕ}
-use mathlib.Core.Bool.{Bool, _&&_}
-use mathlib.Core.List.{List}
+use mathlib.Core.Bool.{Bool, _&&_, _||_, not}
+use mathlib.Core.List.{List, [], _∷_}
 use lib.Dec.{leb, ltb, eqb}
+use lib.ListN.{getD}
 use Rattle.text.specs.Decimal.{pick, digits, value}
 use Rattle.text.specs.Rows.{columns}
 use Rattle.text.specs.Same.{sameBytes}
 use Rattle.layout.specs.declared.Fault.{Fault}
 use Rattle.layout.specs.declared.Near.{Near}
 use Rattle.layout.specs.Fields.{batchHeader, entry, part}
-use Rattle.codes.specs.Codes.{codeOf, known, allowed, carries}
+use Rattle.codes.specs.declared.Code.{Code}
+use Rattle.codes.specs.Codes.{codeOf, known, allowed, carries, remits}
 use Rattle.groups.specs.Groups.{checkDigit}
 use Rattle.kinds.specs.declared.Mark.{Mark}
 use Rattle.kinds.specs.Kinds.{need}
@@ -48,11 +50,20 @@ batchBank h = part batchHeader 12 h
 abbrev pub batchNumber : List ℕ → ℕ
 batchNumber h = value (part batchHeader 13 h)
 
--- record 6, field 2: "digits; a known code (11); under 220 credit codes only, under 225 debit codes only, under 200 either (15)"
+abbrev pub isPpd : List ℕ → Bool
+isPpd h = sameBytes (part batchHeader 6 h) (80 ∷ 80 ∷ 68 ∷ [])
+
+-- zero-dollar entries stand "in CCD batches only": 28 "at field 2 after 15 in a PPD batch"
+abbrev pub classTakes : List ℕ → Code → Bool
+classTakes h c = not (remits c && isPpd h)
+
+-- record 6, field 2: "digits; a known code (11); under 220 credit codes only, under 225 debit codes only, under 200 either (15)", and 28
 abbrev pub codeRule : List ℕ → List ℕ → Mark
 codeRule h p =
     need (digits p) Fault.Digits
-    (need (known (codeOf (value p))) Fault.Value (need (allowed (batchClass h) (codeOf (value p))) Fault.Side Mark.Right))
+    (need (known (codeOf (value p))) Fault.Value
+    (need (allowed (batchClass h) (codeOf (value p))) Fault.Side
+    (need (classTakes h (codeOf (value p))) Fault.Remittance Mark.Right)))
 
 -- record 6, field 4: "a digit; the check digit of field 3 (12)"
 abbrev pub checkDigitRule : List ℕ → List ℕ → Mark
@@ -81,6 +92,12 @@ abbrev pub batchNumberRule : Sums → List ℕ → Mark
 batchNumberRule s p =
     need (digits p) Fault.Digits (need (leb 1 (value p) && ltb (s .number) (value p)) Fault.BatchNumber Mark.Right)
 
+-- record 6, field 10: "'0' or '1' (11)"; of a zero-dollar code 28 "at field 10 after 11 without the addendum"
+abbrev pub flagRule : Code → List ℕ → Mark
+flagRule c p =
+    need (eqb (getD p 0 0) 48 || eqb (getD p 0 0) 49) Fault.Value
+    (need (not (remits c && not (eqb (getD p 0 0) 49))) Fault.Remittance Mark.Right)
+
 abbrev pub nearRule : Sums → List ℕ → List ℕ → Near → List ℕ → Mark
 nearRule s h r Near.Code p = codeRule h p
 nearRule s h r Near.CheckDigit p = checkDigitRule r p
@@ -88,6 +105,7 @@ nearRule s h r Near.Amount p = amountRule r p
 nearRule s h r Near.Trace p = traceRule s h p
 nearRule s h r Near.EntryTrace p = entryTraceRule s p
 nearRule s h r Near.BatchNumber p = batchNumberRule s p
+nearRule s h r Near.Flag p = flagRule (codeOf (entryCode r)) p
 
 -- an entry's numbers
 abbrev pub saidOf : List ℕ → Numbers

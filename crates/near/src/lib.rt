@@ -1,4 +1,5 @@
 // What records say by their fields' numbers, and the rules that look at another field or an earlier record.
+use codes::Code;
 use kinds::Mark;
 use layout::Fault;
 use layout::Near;
@@ -9,7 +10,7 @@ ghost use lib.ListN.{length};
 ghost use Rattle.layout.specs.Fits.{nearFits};
 ghost use Rattle.groups.specs.Groups.{groupSums};
 ghost use Rattle.near.specs.Near.{saidOf};
-ghost use Rattle.near.specs.Near.{entryCode, entryBank, entryAmount, entryTrace, traceNumber, batchClass, batchNumber, codeRule, checkDigitRule, amountRule, traceFollows, traceRule, entryTraceRule, batchNumberRule, nearRule};
+ghost use Rattle.near.specs.Near.{entryCode, entryBank, entryAmount, entryTrace, traceNumber, batchClass, batchNumber, isPpd, classTakes, codeRule, checkDigitRule, amountRule, traceFollows, traceRule, entryTraceRule, batchNumberRule, flagRule, nearRule};
 
 // The numbers that an entry says, read once for its rules and for the sums.
 pub struct Numbers {
@@ -98,6 +99,24 @@ pub fn batch_number(header: &[u8]) -> u64
     text::number(&header[87..94])
 }
 
+fn is_ppd(header: &[u8]) -> bool
+    requires { ⌜ length (now header) ≡ 94 ⌝ }
+    ensures { λ r. ⌜ r ≡ isPpd (now (header .entry)) ⌝ }
+{
+    text::same(&header[50..53], b"PPD")
+}
+
+// Whether the batch's class takes a code. Few codes ask for the class, so it is read for those alone.
+pub fn class_takes(header: &[u8], code: Code) -> bool
+    requires { ⌜ length (now header) ≡ 94 ⌝ }
+    ensures { λ r. ⌜ r ≡ classTakes (now (header .entry)) code ⌝ }
+{
+    if !codes::remits(code) {
+        return true;
+    }
+    !is_ppd(header)
+}
+
 pub fn code_rule(header: &[u8], p: &[u8]) -> Mark
     requires { ⌜ (length (now header) ≡ 94) × (length (now p) ≤ 18) ⌝ }
     ensures { λ r. ⌜ r ≡ codeRule (now (header .entry)) (now (p .entry)) ⌝ }
@@ -111,6 +130,9 @@ pub fn code_rule(header: &[u8], p: &[u8]) -> Mark
     }
     if !codes::allowed(batch_class(header), code) {
         return Mark::Wrong(Fault::Side);
+    }
+    if !class_takes(header, code) {
+        return Mark::Wrong(Fault::Remittance);
     }
     Mark::Right
 }
@@ -193,6 +215,21 @@ fn batch_number_rule(sums: Sums, p: &[u8]) -> Mark
     Mark::Wrong(Fault::BatchNumber)
 }
 
+// An entry's field 10, by the entry's code.
+pub fn flag_rule(code: Code, p: &[u8]) -> Mark
+    requires { ⌜ length (now p) ≡ 1 ⌝ }
+    ensures { λ r. ⌜ r ≡ flagRule code (now (p .entry)) ⌝ }
+{
+    let b = p[0];
+    if !((b == 48) | (b == 49)) {
+        return Mark::Wrong(Fault::Value);
+    }
+    if codes::remits(code) & (b != 49) {
+        return Mark::Wrong(Fault::Remittance);
+    }
+    Mark::Right
+}
+
 // A field with a rule that looks beyond it.
 pub fn near(
     groups: &[u8; 1000],
@@ -212,5 +249,6 @@ pub fn near(
         Near::Trace => trace_rule(sums, header, p),
         Near::EntryTrace => entry_trace_rule(sums, p),
         Near::BatchNumber => batch_number_rule(sums, p),
+        Near::Flag => flag_rule(codes::code_of(entry_code(rec)), p),
     }
 }

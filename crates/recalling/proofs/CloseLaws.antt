@@ -28,11 +28,11 @@ use Rattle.view.proofs.Own.{own-records}
 use Rattle.forming.specs.Forms.{fileControlFrom}
 use Rattle.finding.proofs.Parts.{on, cut-out, record-cut}
 use Rattle.walking.proofs.WalkLaws.{control-long, file-control-long}
-use Rattle.recalling.specs.declared.Sort.{Sort}
-use Rattle.recalling.specs.declared.Walk.{Walk}
-use Rattle.recalling.specs.Walk.{gone, sortOf, walk, firstWalk, opening, entryKept, givesBy, nextBy, givesOf, nextOf, endingOf, leftFrom}
-use Rattle.recalling.specs.Ready.{Walkable, waiting, Room, putAt, Passed, closedUp, Closed}
-use Rattle.recalling.proofs.PutLaws.{put-front, put-back, put-length}
+use Rattle.moving.specs.declared.Sort.{Sort}
+use Rattle.moving.specs.declared.Walk.{Walk}
+use Rattle.moving.specs.Walk.{gone, sortOf, walk, firstWalk, opening, entryKept, givesBy, nextBy, givesOf, nextOf, endingOf, leftFrom}
+use Rattle.moving.specs.Ready.{Walkable, waiting, Room, putAt, Passed, closedUp, Closed}
+use Rattle.moving.proofs.PutLaws.{put-front, put-back, put-length}
 
 -- a record's columns, as the code reads them out
 pub read-out : (way : Way) (f zeros : List ℕ) (i at : ℕ) → length zeros ≡ 94 → at ≡ recordBytes way * i → recordBytes way * (i + 1) ≤ length f

@@ -16,8 +16,8 @@ use Rattle.forming.specs.Forms.{batchControlFrom}
 use Rattle.walking.proofs.WalkLaws.{behindBatches}
 use Rattle.without.specs.Without.{named, entriesLeft, unlessEmpty, batchesLeft, without}
 use Rattle.without.proofs.Left.{by-named, gone-step, stay-step}
-use Rattle.recalling.specs.declared.Walk.{Walk}
-use Rattle.recalling.specs.Walk.{gone, walk, firstWalk, opening, opened, entryGives, entryNext, entryKept, addendumGives, addendumNext, controlGives, controlNext, leftFrom}
+use Rattle.moving.specs.declared.Walk.{Walk}
+use Rattle.moving.specs.Walk.{gone, walk, firstWalk, opening, opened, entryGives, entryNext, entryKept, addendumGives, addendumNext, controlGives, controlNext, leftFrom}
 
 -- a record's first byte
 typed : (b : ℕ) (fs : List (List ℕ)) → getD (joined ((b ∷ []) ∷ fs)) 0 0 ≡ b

@@ -1,4 +1,3 @@
-pub mod PutLaws
 pub mod LeftLaws
 pub mod MarkLaws
 pub mod CloseLaws

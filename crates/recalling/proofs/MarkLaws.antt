@@ -15,7 +15,7 @@ use Rattle.view.specs.Outcome.{exists}
 use Rattle.view.proofs.BridgeFields.{by-eq}
 use Rattle.without.specs.Without.{named, entriesLeft, allExist, without}
 use Rattle.without.proofs.Left.{by-named, entries-without}
-use Rattle.recalling.specs.Walk.{gone, someLeft}
+use Rattle.moving.specs.Walk.{gone, someLeft}
 
 -- ---- the numbers of the list one by one
 

@@ -20,8 +20,8 @@ use Rattle.view.proofs.BridgeSums.{file-sums, body-length}
 use Rattle.view.proofs.Bridge.{accepted-gives}
 use Rattle.writing.proofs.WriteLaws.{Gives}
 use Rattle.without.specs.Without.{named, allExist, without, takeOutOf}
-use Rattle.recalling.specs.Walk.{gone}
-use Rattle.recalling.specs.Ready.{Walkable, closedUp}
+use Rattle.moving.specs.Walk.{gone}
+use Rattle.moving.specs.Ready.{Walkable, closedUp}
 use Rattle.recalling.proofs.LeftLaws.{left-whole}
 use Rattle.recalling.proofs.CloseLaws.{old-few}
 

@@ -1,5 +1,4 @@
 // The file closed up: the records that stay from the front on, the file control, the filler, and blanks.
-use crate::step;
 use forming::forms;
 use layout::Line;
 use layout::Way;
@@ -12,8 +11,8 @@ ghost use Rattle.text.specs.Rows.{joined};
 ghost use Rattle.layout.specs.Ways.{recordBytes};
 ghost use Rattle.near.specs.Small.{Small};
 ghost use Rattle.view.specs.View.{closedBy, fillersAfter};
-ghost use Rattle.recalling.specs.Walk.{endingOf};
-ghost use Rattle.recalling.specs.Ready.{Walkable, closedUp, Closed};
+ghost use Rattle.moving.specs.Walk.{endingOf};
+ghost use Rattle.moving.specs.Ready.{Walkable, closedUp, Closed};
 
 // The columns of record `i`, counted from 0, by value: what is put next may lie over them.
 fn record_at(way: Way, file: &[u8], i: usize) -> [u8; 94]
@@ -31,11 +30,11 @@ fn close_up(way: Way, file: &mut [u8], flags: &[u8], count: usize) -> Sums
     requires { ⌜ Walkable way (now file) count × (length (now flags) ≡ 1000000) ⌝ }
     ensures { λ r. ⌜ Closed way (now (flags .entry)) (now (file .entry)) count r (now (file .exit)) ⌝ }
 {
-    let mut w = step::first();
+    let mut w = moving::first();
     let mut i = 0;
     while i < count {
         let rec = record_at(way, file, i);
-        let next = step::pass_record(way, file, w, flags, rec);
+        let next = moving::pass_record(way, file, w, flags, rec);
         w = next;
         i += 1;
     }
@@ -49,9 +48,9 @@ fn end_file(way: Way, file: &mut [u8], sums: Sums) -> usize
 {
     let control = forms::file_control(sums);
     let filler = forms::filler();
-    let mut so_far = step::put(way, file, sums, Line::FileControl, &control);
+    let mut so_far = moving::put(way, file, sums, Line::FileControl, &control);
     while so_far.records % 10 != 0 {
-        so_far = step::put(way, file, so_far, Line::Filler, &filler);
+        so_far = moving::put(way, file, so_far, Line::Filler, &filler);
     }
     so_far.records as usize
 }

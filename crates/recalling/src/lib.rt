@@ -5,7 +5,6 @@ use layout::Checked;
 use layout::Fault;
 use layout::Made;
 use layout::Way;
-use near::Sums;
 ghost use Prim.Native.Nat.{ℕ};
 ghost use mathlib.Core.Path.{_≡_};
 ghost use lib.ListN.{length, getD};
@@ -16,26 +15,6 @@ ghost use Rattle.without.specs.Without.{takeOutOf};
 
 mod close;
 mod marks;
-mod step;
-
-// What a record before the file control is.
-pub enum Sort {
-    File,
-    Batch,
-    Entry,
-    Addendum,
-    Control,
-}
-
-// What is known of the records so far: the sums of the new file, the record 5 of the batch, how many entries of the old file came,
-// whether that record 5 still waits for an entry that stays, and whether the last entry stays.
-pub struct Walk {
-    pub sums: Sums,
-    pub header: [u8; 94],
-    pub entries: usize,
-    pub held: bool,
-    pub stays: bool,
-}
 
 // A refusal of the list, which has no record and no field.
 fn list_refused(fault: Fault) -> Made

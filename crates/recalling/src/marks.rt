@@ -5,7 +5,7 @@ ghost use mathlib.Core.Bool.{true};
 ghost use lib.ListN.{length, getD};
 ghost use Rattle.view.specs.View.{View, entriesOf};
 ghost use Rattle.without.specs.Without.{named, allExist};
-ghost use Rattle.recalling.specs.Walk.{gone, someLeft};
+ghost use Rattle.moving.specs.Walk.{gone, someLeft};
 
 // Flags each number of the list; false where one of them is no entry's.
 pub(crate) fn mark(flags: &mut [u8], numbers: &[u64], count: u64) -> bool

@@ -7,9 +7,10 @@ use mathlib.Core.List.{List}
 use Rattle.text.proofs.DecimalLaws.{and-both}
 use Rattle.layout.specs.Fields.{entry, addendum, part}
 use Rattle.kinds.specs.declared.Mark.{Mark}
-use Rattle.kinds.specs.Kinds.{fixed, optionalText, mandatoryText, bank, account, flag}
+use Rattle.codes.specs.Codes.{codeOf}
+use Rattle.kinds.specs.Kinds.{fixed, optionalText, mandatoryText, bank, account}
 use Rattle.near.specs.declared.Sums.{Sums}
-use Rattle.near.specs.Near.{codeRule, checkDigitRule, amountRule, traceRule, entryTraceRule}
+use Rattle.near.specs.Near.{entryCode, codeRule, checkDigitRule, amountRule, flagRule, traceRule, entryTraceRule}
 use Rattle.shortcut.specs.Quick.{isRight, entryFront, entryBack, addendumAll}
 use Rattle.records.specs.declared.Verdict.{Verdict}
 use Rattle.records.specs.Run.{fieldsFrom}
@@ -38,7 +39,7 @@ entry-passes s h r f b =
       right-is (optionalText (part entry 7 r)) (b1 .0),
       right-is (mandatoryText (part entry 8 r)) (b1 .1),
       right-is (optionalText (part entry 9 r)) (b2 .1),
-      right-is (flag (part entry 10 r)) (b3 .1),
+      right-is (flagRule (codeOf (entryCode r)) (part entry 10 r)) (b3 .1),
       right-is (traceRule s h (part entry 11 r)) (b4 .1),
     )
     refl

@@ -73,10 +73,10 @@ refused fault n k =
       addenda = 0;
       debit = 0;
       credit = 0;
-      bycode = replicate 16 0;
+      bycode = replicate 24 0;
     }
 
--- "Acceptance gives batches, entries, addenda, debit and credit cents, and for the eight codes .. a row"
+-- "Acceptance gives batches, entries, addenda, debit and credit cents, and for the .. codes in rising order a row"
 abbrev pub accepted : State → Checked
 accepted st =
     record {

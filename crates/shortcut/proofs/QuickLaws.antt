@@ -10,7 +10,7 @@ use Rattle.codes.specs.declared.Code.{Code}
 use Rattle.codes.specs.Codes.{codeOf, known, allowed}
 use Rattle.kinds.specs.declared.Mark.{Mark}
 use Rattle.kinds.specs.Kinds.{need}
-use Rattle.near.specs.Near.{batchClass, codeRule}
+use Rattle.near.specs.Near.{batchClass, classTakes, codeRule}
 use Rattle.shortcut.specs.Quick.{isRight}
 
 -- rules with their tests gathered
@@ -38,12 +38,14 @@ gate-open true false c f g e = absurd (false≢true e)
 gate-open false b c f g e = absurd (false≢true e)
 
 -- a code that may stand in the batch is known
-pub code-right : (h p : List ℕ) → (digits p && allowed (batchClass h) (codeOf (value p))) ≡ isRight (codeRule h p)
+pub code-right : (h p : List ℕ)
+    → (digits p && (allowed (batchClass h) (codeOf (value p)) && classTakes h (codeOf (value p)))) ≡ isRight (codeRule h p)
 code-right h p = go (digits p) (codeOf (value p))
   where
     go : (d : Bool) (c : Code)
-        → (d && allowed (batchClass h) c) ≡ isRight (need d Fault.Digits (need (known c) Fault.Value (need (allowed (batchClass h) c) Fault.Side Mark.Right)))
+        → (d && (allowed (batchClass h) c && classTakes h c))
+        ≡ isRight (need d Fault.Digits (need (known c) Fault.Value (need (allowed (batchClass h) c) Fault.Side (need (classTakes h c) Fault.Remittance Mark.Right))))
     go false c = refl
     go true Code.Unknown = refl
-    go true (Code.Credit u) = bit (allowed (batchClass h) (Code.Credit u)) Fault.Side
-    go true (Code.Debit u) = bit (allowed (batchClass h) (Code.Debit u)) Fault.Side
+    go true (Code.Credit u) = two-tests (allowed (batchClass h) (Code.Credit u)) (classTakes h (Code.Credit u)) Fault.Side Fault.Remittance
+    go true (Code.Debit u) = two-tests (allowed (batchClass h) (Code.Debit u)) (classTakes h (Code.Debit u)) Fault.Side Fault.Remittance

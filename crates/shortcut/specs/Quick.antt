@@ -4,9 +4,10 @@ use mathlib.Core.Bool.{Bool, true, false, _&&_}
 use mathlib.Core.List.{List}
 use Rattle.layout.specs.Fields.{entry, addendum, part}
 use Rattle.kinds.specs.declared.Mark.{Mark}
-use Rattle.kinds.specs.Kinds.{fixed, optionalText, mandatoryText, bank, account, flag}
+use Rattle.codes.specs.Codes.{codeOf}
+use Rattle.kinds.specs.Kinds.{fixed, optionalText, mandatoryText, bank, account}
 use Rattle.near.specs.declared.Sums.{Sums}
-use Rattle.near.specs.Near.{codeRule, checkDigitRule, amountRule, traceRule, entryTraceRule}
+use Rattle.near.specs.Near.{entryCode, codeRule, checkDigitRule, amountRule, flagRule, traceRule, entryTraceRule}
 
 abbrev pub isRight : Mark → Bool
 isRight Mark.Right = true
@@ -22,7 +23,7 @@ entryFront h r =
 abbrev pub entryBack : Sums → List ℕ → List ℕ → Bool
 entryBack s h r =
     isRight (optionalText (part entry 7 r)) && isRight (mandatoryText (part entry 8 r)) && isRight (optionalText (part entry 9 r))
-    && isRight (flag (part entry 10 r)) && isRight (traceRule s h (part entry 11 r))
+    && isRight (flagRule (codeOf (entryCode r)) (part entry 10 r)) && isRight (traceRule s h (part entry 11 r))
 
 -- fields 2 to 5 of an addendum
 abbrev pub addendumAll : Sums → List ℕ → Bool

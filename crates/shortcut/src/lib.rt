@@ -41,11 +41,12 @@ pub fn entry_front(groups: &[u8; 1000], header: &[u8], said: Numbers, rec: &[u8]
     ensures { λ r. ⌜ r ≡ entryFront (now (header .entry)) (now (rec .entry)) ⌝ }
 {
     let code = codes::code_of(said.code);
-    let side = text::digits(&rec[1..3]) & codes::allowed(near::batch_class(header), code);
+    let side = codes::allowed(near::batch_class(header), code) & near::class_takes(header, code);
+    let known = text::digits(&rec[1..3]) & side;
     let routing = routing_right(groups, said.bank, rec);
     let account = right(own::account(&rec[12..29]));
     let amount = text::digits(&rec[29..39]) & codes::carries(code, said.amount);
-    side & routing & account & amount
+    known & routing & account & amount
 }
 
 fn trace_right(sums: Sums, header: &[u8], n: u64, p: &[u8]) -> bool
@@ -63,7 +64,7 @@ pub fn entry_back(sums: Sums, header: &[u8], said: Numbers, rec: &[u8]) -> bool
     let id = right(texts::optional_text(&rec[39..54]));
     let name = right(texts::mandatory_text(&rec[54..76]));
     let other = right(texts::optional_text(&rec[76..78]));
-    let flag = right(own::flag(&rec[78..79]));
+    let flag = right(near::flag_rule(codes::code_of(said.code), &rec[78..79]));
     let trace = trace_right(sums, header, said.trace, &rec[79..94]);
     id & name & other & flag & trace
 }

@@ -134,5 +134,5 @@ start-fair =
             batchdebit = lit≤ tt;
             batchcredit = lit≤ tt;
           };
-      rows = λ k. omega (arith, zeros 16 k);
+      rows = λ k. omega (arith, zeros 24 k);
     }

@@ -135,7 +135,7 @@ nextHeader h Line.Filler r = h
 nextHeader h Line.Past r = h
 nextHeader h Line.Other r = h
 
--- "for the eight codes in rising order a row of how many and how many cents": row k is at 2 k and 2 k + 1
+-- "in rising order a row of how many and how many cents": row k is at 2 k and 2 k + 1
 abbrev pub addToRow : List ℕ → ℕ → ℕ → List ℕ
 addToRow rows k cents =
     set (set rows (2 * k) (getD rows (2 * k) 0 + 1)) (2 * k + 1) (getD (set rows (2 * k) (getD rows (2 * k) 0 + 1)) (2 * k + 1) 0 + cents)
@@ -153,7 +153,7 @@ nextByCode rows Line.Other r = rows
 
 -- before the first record
 abbrev pub start : State
-start = record { place = Place.Start; sums = noSums; header = replicate recordColumns 0; bycode = replicate 16 0 }
+start = record { place = Place.Start; sums = noSums; header = replicate recordColumns 0; bycode = replicate 24 0 }
 
 -- after a record that passed
 abbrev pub tally : State → Line → List ℕ → State

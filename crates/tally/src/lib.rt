@@ -18,7 +18,7 @@ pub struct State {
     pub place: Place,
     pub sums: Sums,
     pub header: [u8; 94],
-    pub bycode: [u64; 16],
+    pub bycode: [u64; 24],
 }
 
 fn add_record(sums: Sums) -> Sums
@@ -131,7 +131,7 @@ pub fn next_header(header: [u8; 94], line: Line, rec: &[u8]) -> [u8; 94]
 
 // One entry more in row k, and its cents.
 fn add_to_row(rows: &mut [u64], k: usize, cents: u64)
-    requires { ⌜ (length (now rows) ≡ 16) × (k < 8) × (getD (now rows) (2 * k) 0 ≤ 10000000000000000) × (getD (now rows) (2 * k + 1) 0 ≤ 10000000000000000) × (cents < 10000000000) ⌝ }
+    requires { ⌜ (length (now rows) ≡ 24) × (k < 12) × (getD (now rows) (2 * k) 0 ≤ 10000000000000000) × (getD (now rows) (2 * k + 1) 0 ≤ 10000000000000000) × (cents < 10000000000) ⌝ }
     ensures { λ _. ⌜ now (rows .exit) ≡ addToRow (now (rows .entry)) k cents ⌝ }
 {
     let count = 2 * k;
@@ -141,8 +141,8 @@ fn add_to_row(rows: &mut [u64], k: usize, cents: u64)
 }
 
 pub fn count_in_row(rows: &mut [u64], line: Line, said: Numbers)
-    requires { ⌜ (length (now rows) ≡ 16) × SmallRows 1000000 (now rows) × (said .amount < 10000000000) ⌝ }
-    ensures { λ _. ⌜ (length (now (rows .exit)) ≡ 16) × ((n : ℕ) → SmallRows n (now (rows .entry)) → SmallRows (n + 1) (now (rows .exit))) × ((r : List ℕ) → said ≡ saidOf r → now (rows .exit) ≡ nextByCode (now (rows .entry)) line r) ⌝ }
+    requires { ⌜ (length (now rows) ≡ 24) × SmallRows 1000000 (now rows) × (said .amount < 10000000000) ⌝ }
+    ensures { λ _. ⌜ (length (now (rows .exit)) ≡ 24) × ((n : ℕ) → SmallRows n (now (rows .entry)) → SmallRows (n + 1) (now (rows .exit))) × ((r : List ℕ) → said ≡ saidOf r → now (rows .exit) ≡ nextByCode (now (rows .entry)) line r) ⌝ }
 {
     match line {
         Line::Entry => add_to_row(rows, codes::code_row(said.code), said.amount),
@@ -201,6 +201,6 @@ pub fn start() -> State
             trace: 0,
         },
         header: [0u8; 94],
-        bycode: [0u64; 16],
+        bycode: [0u64; 24],
     }
 }

@@ -20,7 +20,7 @@ use Rattle.view.specs.Runs.{alterRun, tableRun}
 use Rattle.layout.specs.declared.Way.{Way}
 
 -- a letter, and so many blanks behind it
-abbrev name : ℕ → List ℕ
+abbrev pub name : ℕ → List ℕ
 name blanks = 65 ∷ replicate blanks 32
 
 -- code, bank with its check digit, account, amount, a name, column 79, and the trace
@@ -33,26 +33,41 @@ item code bank amount flag trace addenda =
       addenda = addenda;
     }
 
--- class, names, PPD, a date, the bank and the batch's number
-abbrev pub batch : ℕ → ℕ → List Entry → Batch
-batch class number entries =
+-- class, names, the entries' class, a date, the bank and the batch's number
+abbrev pub batchOf : List ℕ → ℕ → ℕ → List Entry → Batch
+batchOf kind class number entries =
     record {
       row =
-          render 3 class ++ (name 15 ++ (replicate 20 32 ++ (render 10 1123456789 ++ (80 ∷ 80 ∷ 68 ∷ name 9 ++ (replicate 6 32
-          ++ (render 6 261116 ++ (render 8 32207038 ++ render 7 number)))))));
+          render 3 class ++ (name 15 ++ (replicate 20 32 ++ (render 10 1123456789 ++ (kind ++ (name 9 ++ (replicate 6 32
+          ++ (render 6 261116 ++ (render 8 32207038 ++ render 7 number))))))));
       entries = entries;
+    }
+
+-- 'PPD' and 'CCD'
+abbrev pub ppd : List ℕ
+ppd = 80 ∷ 80 ∷ 68 ∷ []
+
+abbrev pub ccd : List ℕ
+ccd = 67 ∷ 67 ∷ 68 ∷ []
+
+abbrev pub batch : ℕ → ℕ → List Entry → Batch
+batch class number entries = batchOf ppd class number entries
+
+-- the file's row, and these batches
+abbrev pub fileWith : List Batch → View
+fileWith batches =
+    record {
+      row = 32 ∷ render 9 322070381 ++ (32 ∷ render 9 123456789 ++ (render 6 261113 ++ (render 4 930 ++ (65 ∷ replicate 54 32))));
+      batches = batches;
     }
 
 -- a credit of x cents and a debit of 250 with an addendum; then a credit of y cents and one of 40
 abbrev pub two : ℕ → ℕ → View
 two x y =
-    record {
-      row = 32 ∷ render 9 322070381 ++ (32 ∷ render 9 123456789 ++ (render 6 261113 ++ (render 4 930 ++ (65 ∷ replicate 54 32))));
-      batches =
-          batch 200 1 (item 22 32207038 x 0 1 [] ∷ item 27 5300021 250 1 2 (name 79 ∷ []) ∷ [])
-          ∷ batch 220 7 (item 22 2130264 y 0 1 [] ∷ item 32 32207038 40 0 2 [] ∷ [])
-          ∷ [];
-    }
+    fileWith
+    (batch 200 1 (item 22 32207038 x 0 1 [] ∷ item 27 5300021 250 1 2 (name 79 ∷ []) ∷ [])
+    ∷ batch 220 7 (item 22 2130264 y 0 1 [] ∷ item 32 32207038 40 0 2 [] ∷ [])
+    ∷ [])
 
 pub record Across : Type 0 where
   -- its file is accepted, with the numbers of both batches
@@ -64,7 +79,7 @@ pub record Across : Type 0 where
         addenda = 1;
         debit = 250;
         credit = 1140;
-        bycode = 2 ∷ 1100 ∷ 0 ∷ 0 ∷ 1 ∷ 250 ∷ 0 ∷ 0 ∷ 1 ∷ 40 ∷ replicate 6 0;
+        bycode = 2 ∷ 1100 ∷ replicate 4 0 ++ (1 ∷ 250 ∷ replicate 4 0 ++ (1 ∷ 40 ∷ replicate 10 0));
       }
   -- eleven records and nine fillers
   pub records : (length (bodyOf (two 100 1000)) + 1 ≡ 11) × (length (recordsOf (two 100 1000)) ≡ 20)

@@ -117,6 +117,7 @@ use-near Use.Live x y p q =
     let b = leb-true 1 y (and-both (leb 1 y) (leb y 9999999999) q .0) in
     omega arith
 use-near Use.Prenote x y p q = let a = eqb-true x 0 p in omega arith
+use-near Use.Remittance x y p q = let a = eqb-true x 0 p in omega arith
 
 carried-near : (c : Code) (x y : ℕ) → carries c x ≡ true → carries c y ≡ true → (x ≤ y + 9999999998) × (y ≤ x + 9999999998)
 carried-near Code.Unknown x y p q = never p

@@ -42,6 +42,7 @@ use Rattle.view.proofs.Answers.{demand-granted}
 use-few : (u : Use) (a : ℕ) → useCarries u a ≡ true → a < 10 ^ 10
 use-few Use.Live a e = let h = leb-true a 9999999999 (and-both (leb 1 a) (leb a 9999999999) e .1) in omega arith
 use-few Use.Prenote a e = rw (eqb-true a 0 e) (lit< tt)
+use-few Use.Remittance a e = rw (eqb-true a 0 e) (lit< tt)
 
 -- what a code carries has ten digits
 pub carried-few : (c : Code) (a : ℕ) → carries c a ≡ true → a < 10 ^ 10

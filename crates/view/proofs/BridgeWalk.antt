@@ -35,7 +35,7 @@ at p s h c = record { place = p; sums = s; header = h; bycode = c }
 
 -- what checking the file of a view gives, if it is granted
 abbrev pub grantedOf : View → Checked
-grantedOf v = accepted (at Place.FileDone (addRecord (afterBody v)) [] (codesAfter (replicate 16 0) (entriesOf v)))
+grantedOf v = accepted (at Place.FileDone (addRecord (afterBody v)) [] (codesAfter (replicate 24 0) (entriesOf v)))
 
 -- the run behind a record's verdict
 abbrev pub carry : Verdict → State → State → List (List ℕ) → Checked
@@ -171,8 +171,8 @@ module _ (P : Checked → Type 0) (Ok : Line → Sums → List ℕ → List ℕ 
       let fillers = replicate (fillersAfter (length (bodyOf v) + 1)) fillerRecord in
       let control = fileControlRecord v in
       let typed = file-control-fields v .type in
-      let c = codesAfter (replicate 16 0) (entriesOf v) in
+      let c = codesAfter (replicate 24 0) (entriesOf v) in
       let end : (h : List ℕ) → bareRun (at Place.FileDone (addRecord (afterBody v)) h c) fillers ≡ grantedOf v = λ h. fillers-run (fillersAfter (length (bodyOf v) + 1)) (addRecord (afterBody v)) h c (rw (file-sums v .records) refl) in
       step start Line.FileHeader (fileRecord v) (batchesRecords (v .batches) ++ (control ∷ fillers)) (rw (file-fields v (l .long) .type)) (k .header)
-      (open-walk (addRecord noSums) (start .header) (replicate 16 0) (v .batches) control fillers typed n (l .each) m (k .batches)
+      (open-walk (addRecord noSums) (start .header) (replicate 24 0) (v .batches) control fillers typed n (l .each) m (k .batches)
       (λ h. step (at Place.BatchDone (afterBody v) h c) Line.FileControl control fillers (rw typed) (k .control h) (rw (end h) p)))

@@ -1,4 +1,5 @@
 pub mod Across
+pub mod AcrossNothing
 pub mod Whole
 pub mod Formed
 pub mod Lists

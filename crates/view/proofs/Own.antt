@@ -19,7 +19,7 @@ use Rattle.layout.specs.declared.Fault.{Fault}
 use Rattle.kinds.specs.declared.Mark.{Mark}
 use Rattle.kinds.specs.Kinds.{need}
 use Rattle.codes.specs.Codes.{codeOf, codeRow, known, allowed}
-use Rattle.near.specs.Near.{codeRule, batchClass}
+use Rattle.near.specs.Near.{codeRule, batchClass, classTakes}
 use Rattle.tally.specs.Tally.{addToRow}
 use Rattle.records.specs.Run.{checkedOf, columnsIn}
 use Rattle.view.specs.View.{Entry, Batch, View, sumOver, codeIn, amountOf, debitOf, creditOf, entriesOf, recordsOf, fileOf, viewOf}
@@ -40,32 +40,40 @@ use Rattle.layout.specs.declared.Way.{Way}
 -- ---- the rows by code
 
 -- a known code stands in its row
-code-back : (n : ℕ) → known (codeOf n) ≡ true → getD codes (codeRow n) 0 ≡ n
+pub code-back : (n : ℕ) → known (codeOf n) ≡ true → getD codes (codeRow n) 0 ≡ n
 code-back n k =
     by-eq n 22 (λ e. rw e) λ n22.
     by-eq n 23 (λ e. rw e) λ n23.
+    by-eq n 24 (λ e. rw e) λ n24.
     by-eq n 27 (λ e. rw e) λ n27.
     by-eq n 28 (λ e. rw e) λ n28.
+    by-eq n 29 (λ e. rw e) λ n29.
     by-eq n 32 (λ e. rw e) λ n32.
     by-eq n 33 (λ e. rw e) λ n33.
+    by-eq n 34 (λ e. rw e) λ n34.
     by-eq n 37 (λ e. rw e) λ n37.
     by-eq n 38 (λ e. rw e) λ n38.
-    never (rw (n22, n23, n27, n28, n32, n33, n37, n38) at k)
+    by-eq n 39 (λ e. rw e) λ n39.
+    never (rw (n22, n23, n24, n27, n28, n29, n32, n33, n34, n37, n38, n39) at k)
 
--- there are eight rows
-code-row-small : (n : ℕ) → codeRow n < 8
+-- there are twelve rows
+code-row-small : (n : ℕ) → codeRow n < 12
 code-row-small n =
     by-eq n 22 (λ e. rw e (lit< tt)) λ n22.
     by-eq n 23 (λ e. rw e (lit< tt)) λ n23.
+    by-eq n 24 (λ e. rw e (lit< tt)) λ n24.
     by-eq n 27 (λ e. rw e (lit< tt)) λ n27.
     by-eq n 28 (λ e. rw e (lit< tt)) λ n28.
+    by-eq n 29 (λ e. rw e (lit< tt)) λ n29.
     by-eq n 32 (λ e. rw e (lit< tt)) λ n32.
     by-eq n 33 (λ e. rw e (lit< tt)) λ n33.
+    by-eq n 34 (λ e. rw e (lit< tt)) λ n34.
     by-eq n 37 (λ e. rw e (lit< tt)) λ n37.
-    rw (n22, n23, n27, n28, n32, n33, n37) (lit< tt)
+    by-eq n 38 (λ e. rw e (lit< tt)) λ n38.
+    rw (n22, n23, n24, n27, n28, n29, n32, n33, n34, n37, n38) (lit< tt)
 
 -- and each row has its own code
-row-back : (k : ℕ) → k < 8 → codeRow (getD codes k 0) ≡ k
+row-back : (k : ℕ) → k < 12 → codeRow (getD codes k 0) ≡ k
 row-back zero l = refl
 row-back (suc zero) l = refl
 row-back (suc (suc zero)) l = refl
@@ -74,17 +82,21 @@ row-back (suc (suc (suc (suc zero)))) l = refl
 row-back (suc (suc (suc (suc (suc zero))))) l = refl
 row-back (suc (suc (suc (suc (suc (suc zero)))))) l = refl
 row-back (suc (suc (suc (suc (suc (suc (suc zero))))))) l = refl
-row-back (suc (suc (suc (suc (suc (suc (suc (suc k)))))))) l = absurd (omega arith)
+row-back (suc (suc (suc (suc (suc (suc (suc (suc zero)))))))) l = refl
+row-back (suc (suc (suc (suc (suc (suc (suc (suc (suc zero))))))))) l = refl
+row-back (suc (suc (suc (suc (suc (suc (suc (suc (suc (suc zero)))))))))) l = refl
+row-back (suc (suc (suc (suc (suc (suc (suc (suc (suc (suc (suc zero))))))))))) l = refl
+row-back (suc (suc (suc (suc (suc (suc (suc (suc (suc (suc (suc (suc k)))))))))))) l = absurd (omega arith)
 
 -- so an entry counts in the row of its code
-in-row : (n k : ℕ) → known (codeOf n) ≡ true → k < 8 → eqb (codeRow n) k ≡ eqb n (getD codes k 0)
+in-row : (n k : ℕ) → known (codeOf n) ≡ true → k < 12 → eqb (codeRow n) k ≡ eqb n (getD codes k 0)
 in-row n k c l =
     by-eq n (getD codes k 0)
     (λ e. let m : codeRow n ≡ k = rw e (row-back k l) in eq-eqb (codeRow n) k m ∙ sym (eq-eqb n (getD codes k 0) e))
     λ d. ne-eqb (codeRow n) k (λ e. eqb-false n (getD codes k 0) d (sym (code-back n c) ∙ ap (λ j. getD codes j 0) e)) ∙ sym d
 
 -- what one entry adds to its row, and to no other
-module _ (c : List ℕ) (j x k : ℕ) (l : j < 8) (s : length c ≡ 16) where
+module _ (c : List ℕ) (j x k : ℕ) (l : j < 12) (s : length c ≡ 24) where
   row-count : getD (addToRow c j x) (2 * k) 0 ≡ getD c (2 * k) 0 + pick (eqb j k) 1 0
   row-count =
       let more = getD c (2 * j) 0 + 1 in
@@ -104,7 +116,8 @@ module _ (c : List ℕ) (j x k : ℕ) (l : j < 8) (s : length c ≡ 16) where
 -- every entry of the file has a known code
 code-known : (h p : List ℕ) → codeRule h p ≡ Mark.Right → known (codeOf (value p)) ≡ true
 code-known h p e =
-    let side = need (allowed (batchClass h) (codeOf (value p))) Fault.Side Mark.Right in
+    let class = need (classTakes h (codeOf (value p))) Fault.Remittance Mark.Right in
+    let side = need (allowed (batchClass h) (codeOf (value p))) Fault.Side class in
     need-right (known (codeOf (value p))) Fault.Value side (need-right (digits p) Fault.Digits (need (known (codeOf (value p))) Fault.Value side) e .1) .0
 
 entries-known : (h : List ℕ) (n t : ℕ) (es : List Entry) → EntriesKeep h n t es → All (λ e. known (codeOf (codeIn e)) ≡ true) es
@@ -122,17 +135,17 @@ codes-long c e = rw (length-set, length-set)
 
 -- what each entry adds at one place, and all of them together
 codes-sum : (p : ℕ) (g : Entry → ℕ)
-    → ((c : List ℕ) (e : Entry) → length c ≡ 16 → known (codeOf (codeIn e)) ≡ true → getD (addToRow c (codeRow (codeIn e)) (amountOf e)) p 0 ≡ getD c p 0 + g e)
-    → (c : List ℕ) → length c ≡ 16 → (es : List Entry) → All (λ e. known (codeOf (codeIn e)) ≡ true) es → getD (codesAfter c es) p 0 ≡ getD c p 0 + sumOver g es
+    → ((c : List ℕ) (e : Entry) → length c ≡ 24 → known (codeOf (codeIn e)) ≡ true → getD (addToRow c (codeRow (codeIn e)) (amountOf e)) p 0 ≡ getD c p 0 + g e)
+    → (c : List ℕ) → length c ≡ 24 → (es : List Entry) → All (λ e. known (codeOf (codeIn e)) ≡ true) es → getD (codesAfter c es) p 0 ≡ getD c p 0 + sumOver g es
 unfolding sumOver
 codes-sum p g k c s [] a = sym (add-zero _)
 codes-sum p g k c s (e ∷ es) a =
     codes-sum p g k (addToRow c (codeRow (codeIn e)) (amountOf e)) (codes-long c e ∙ s) es (a .1) ∙ rw (k c e s (a .0)) (add-assoc (getD c p 0) (g e) (sumOver g es))
 
 -- all rows begin with 0
-from-zero : (p : ℕ) (g : Entry → ℕ) (es : List Entry) → p < 16 → getD (codesAfter (replicate 16 0) es) p 0 ≡ getD (replicate 16 0) p 0 + sumOver g es
-    → getD (codesAfter (replicate 16 0) es) p 0 ≡ sumOver g es
-from-zero p g es l e = e ∙ rw (getD-replicate {A = ℕ} 16 p 0 0 l) (zero-add (sumOver g es))
+from-zero : (p : ℕ) (g : Entry → ℕ) (es : List Entry) → p < 24 → getD (codesAfter (replicate 24 0) es) p 0 ≡ getD (replicate 24 0) p 0 + sumOver g es
+    → getD (codesAfter (replicate 24 0) es) p 0 ≡ sumOver g es
+from-zero p g es l e = e ∙ rw (getD-replicate {A = ℕ} 24 p 0 0 l) (zero-add (sumOver g es))
 
 -- ---- what an acceptance tells
 
@@ -143,9 +156,9 @@ pub record Told (c : Checked) (v : View) : Type 0 where
   pub addenda : c .addenda ≡ length (addendaOf v)
   pub debit : c .debit ≡ sumOver debitOf (entriesOf v)
   pub credit : c .credit ≡ sumOver creditOf (entriesOf v)
-  -- of each of the eight codes, how many entries have it and how many cents they are
-  pub counts : (k : ℕ) → k < 8 → getD (c .bycode) (2 * k) 0 ≡ countBy (getD codes k 0) (entriesOf v)
-  pub cents : (k : ℕ) → k < 8 → getD (c .bycode) (2 * k + 1) 0 ≡ centsBy (getD codes k 0) (entriesOf v)
+  -- of each of the twelve codes, how many entries have it and how many cents they are
+  pub counts : (k : ℕ) → k < 12 → getD (c .bycode) (2 * k) 0 ≡ countBy (getD codes k 0) (entriesOf v)
+  pub cents : (k : ℕ) → k < 12 → getD (c .bycode) (2 * k + 1) 0 ≡ centsBy (getD codes k 0) (entriesOf v)
 
 -- the grant of a view tells its numbers
 granted-told : (v : View) → Keeps v → Told (grantedOf v) v
@@ -162,11 +175,11 @@ granted-told v k =
       counts =
           λ i l.
           from-zero (2 * i) _ (entriesOf v) (omega arith)
-          (codes-sum (2 * i) _ (λ c e s g. row-count c (codeRow (codeIn e)) (amountOf e) i (code-row-small (codeIn e)) s ∙ rw (in-row (codeIn e) i g l)) (replicate 16 0) refl (entriesOf v) is-known);
+          (codes-sum (2 * i) _ (λ c e s g. row-count c (codeRow (codeIn e)) (amountOf e) i (code-row-small (codeIn e)) s ∙ rw (in-row (codeIn e) i g l)) (replicate 24 0) refl (entriesOf v) is-known);
       cents =
           λ i l.
           from-zero (2 * i + 1) _ (entriesOf v) (omega arith)
-          (codes-sum (2 * i + 1) _ (λ c e s g. row-cents c (codeRow (codeIn e)) (amountOf e) i (code-row-small (codeIn e)) s ∙ rw (in-row (codeIn e) i g l)) (replicate 16 0) refl (entriesOf v) is-known);
+          (codes-sum (2 * i + 1) _ (λ c e s g. row-cents c (codeRow (codeIn e)) (amountOf e) i (code-row-small (codeIn e)) s ∙ rw (in-row (codeIn e) i g l)) (replicate 24 0) refl (entriesOf v) is-known);
     }
 
 -- the numbers of an acceptance are those of the file's own batches, entries and addenda

@@ -48,9 +48,9 @@ use Rattle.view.proofs.Bridge.{checked-joined, checked-many}
 use Rattle.layout.specs.declared.Way.{Way}
 use Rattle.view.proofs.Ways.{bareRun}
 
--- the paper's numbers that such a file can be refused with: 1, 3, 6 to 17 and 20, and 5 for the blank that record 1, field 3 begins with
+-- the paper's numbers that such a file can be refused with: 1, 3, 6 to 17, 20 and 28, and 5 for the blank that record 1, field 3 begins with
 abbrev pub anywhere : ℕ → Bool
-anywhere number = eqb number 1 || eqb number 3 || (leb 6 number && leb number 17) || eqb number 20
+anywhere number = eqb number 1 || eqb number 3 || (leb 6 number && leb number 17) || eqb number 20 || eqb number 28
 
 -- the number, at record n and field k
 abbrev pub ofTable : ℕ → ℕ → ℕ → Bool
@@ -107,7 +107,6 @@ freeOwn Own.Class = true
 freeOwn Own.EntryClass = true
 freeOwn Own.Bank = true
 freeOwn Own.Account = true
-freeOwn Own.Flag = true
 
 abbrev freeKind : Kind → Bool
 freeKind Kind.Type = true
@@ -136,7 +135,6 @@ own-free Own.Class p d = search (need-free, right-free)
 own-free Own.EntryClass p d = search (need-free, right-free)
 own-free Own.Bank p d = search (need-free, right-free)
 own-free Own.Account p d = search (need-free, right-free)
-own-free Own.Flag p d = search (need-free, right-free)
 
 near-free : (s : Sums) (h r : List ℕ) (m : Near) (p : List ℕ) → Free (nearRule s h r m p)
 near-free s h r Near.Code p = search (need-free, right-free)
@@ -145,6 +143,7 @@ near-free s h r Near.Amount p = search (need-free, right-free)
 near-free s h r Near.Trace p = search (need-free, right-free)
 near-free s h r Near.EntryTrace p = search (need-free, right-free)
 near-free s h r Near.BatchNumber p = search (need-free, right-free)
+near-free s h r Near.Flag p = search (need-free, right-free)
 
 kind-free : (s : Sums) (h r : List ℕ) (m : Kind) (p : List ℕ) → freeKind m ≡ true → Free (kindRule s h r m p)
 kind-free s h r Kind.Type p d = record { at = λ n k. refl }

@@ -97,7 +97,7 @@ pub whole-accepted : checkedOf Way.Plain whole
       addenda = 1;
       debit = 0;
       credit = 12550;
-      bycode = 2 ∷ 12550 ∷ replicate 14 0;
+      bycode = 2 ∷ 12550 ∷ replicate 22 0;
     }
 unfolding runFrom fieldsFrom every valueFrom sameBytes rows weighed unbroken
 whole-accepted = refl
@@ -266,7 +266,7 @@ pub lined-accepted : checkedOf Way.Lined lined
       addenda = 1;
       debit = 0;
       credit = 12550;
-      bycode = 2 ∷ 12550 ∷ replicate 14 0;
+      bycode = 2 ∷ 12550 ∷ replicate 22 0;
     }
 unfolding runFrom fieldsFrom every valueFrom sameBytes rows weighed unbroken joined
 lined-accepted = refl

@@ -77,9 +77,9 @@ pub record Keeps (v : View) : Type 0 where
   pub within : Within (entriesOf v)
   pub fits : length (recordsOf v) ≤ mostRecords
 
--- "the eight codes in rising order"; of each how many entries have it, and their cents
+-- "The rows by code become twelve, in rising order"; of each how many entries have it, and their cents
 abbrev pub codes : List ℕ
-codes = 22 ∷ 23 ∷ 27 ∷ 28 ∷ 32 ∷ 33 ∷ 37 ∷ 38 ∷ []
+codes = 22 ∷ 23 ∷ 24 ∷ 27 ∷ 28 ∷ 29 ∷ 32 ∷ 33 ∷ 34 ∷ 37 ∷ 38 ∷ 39 ∷ []
 
 abbrev pub countBy : ℕ → List Entry → ℕ
 countBy code es = sumOver (λ e. pick (eqb (codeIn e) code) 1 0) es

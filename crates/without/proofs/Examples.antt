@@ -79,7 +79,7 @@ pub record Recalled : Type 0 where
         addenda = 0;
         debit = 0;
         credit = 1100;
-        bycode = 2 ∷ 1100 ∷ replicate 14 0;
+        bycode = 2 ∷ 1100 ∷ replicate 22 0;
       }
   -- "An empty list is granted and changes nothing."
   pub none : recall Way.Plain [] ≡ record { gives = record { answer = Answer.Granted; length = 1880 }; leaves = fileOf Way.Plain sent }

@@ -10,8 +10,8 @@
 //! the function writes; a null pointer will do for none. What is lent to one call is apart.
 
 extern "C" {
-    /// Checks the `n` bytes at `file`. Granted, it fills 21 numbers: batches, entries, addenda,
-    /// debit and credit cents, then count and cents for each of the eight codes.
+    /// Checks the `n` bytes at `file`. Granted, it fills 29 numbers: batches, entries, addenda,
+    /// debit and credit cents, then count and cents for each of the twelve codes.
     pub fn ach_check(way: u64, file: *const u8, n: usize, acceptance: *mut u64) -> u64;
 
     /// Writes the pay table of a file to `table`, and its length to `length`.

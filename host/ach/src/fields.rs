@@ -32,14 +32,12 @@ pub enum Own {
     Bank,
     /// Capital letters, digits and hyphens, then blanks.
     Account,
-    /// Whether an addendum follows.
-    Flag,
 }
 
 /// A rule that looks at another field or at an earlier record.
 #[derive(Clone, Copy, Debug, PartialEq, Eq)]
 pub enum Near {
-    /// A known code that the batch's class allows.
+    /// A known code that the batch's class and entry class allow.
     Code,
     /// The check digit of the bank before it.
     CheckDigit,
@@ -51,6 +49,8 @@ pub enum Near {
     EntryTrace,
     /// More than the batch before has.
     BatchNumber,
+    /// Whether an addendum follows, as one does behind a zero-dollar remittance.
+    Flag,
 }
 
 /// A sum that a control record repeats.
@@ -221,7 +221,7 @@ const ENTRY: [Field; 11] = [
     row("Identification number", 40, 54, Kind::Optional),
     row("Name", 55, 76, Kind::Mandatory),
     row("Discretionary data", 77, 78, Kind::Optional),
-    row("Addenda record indicator", 79, 79, Kind::Own(Own::Flag)),
+    row("Addenda record indicator", 79, 79, Kind::Near(Near::Flag)),
     row("Trace number", 80, 94, Kind::Near(Near::Trace)),
 ];
 

@@ -37,10 +37,10 @@ pub use refusal::{reason, Refusal};
 pub use way::Way;
 
 /// How many numbers an acceptance has at the boundary.
-pub const ACCEPTANCE_LENGTH: usize = 21;
+pub const ACCEPTANCE_LENGTH: usize = 29;
 
 /// The transaction codes that are known, in the order of [`Acceptance::by_code`].
-pub const CODES: [u8; 8] = [22, 23, 27, 28, 32, 33, 37, 38];
+pub const CODES: [u8; 12] = [22, 23, 24, 27, 28, 29, 32, 33, 34, 37, 38, 39];
 
 /// A pay table's four counts and its header row.
 const EMPTY_TABLE: usize = 4 * 6 + FILE_ROW;
@@ -65,7 +65,17 @@ pub struct Acceptance {
     /// The cents of all credit entries.
     pub credit: u64,
     /// How many entries and how many cents, for each of [`CODES`] in turn.
-    pub by_code: [u64; 16],
+    ///
+    /// ```
+    /// let file = include_bytes!("../../../samples/remittances.ach");
+    /// let held = ach::check(ach::Way::Plain, file)?;
+    /// let rows = ach::CODES.iter().zip(held.by_code.chunks_exact(2));
+    /// let twice: Vec<(u8, u64)> =
+    ///     rows.filter(|(_, row)| row[0] == 2).map(|(code, row)| (*code, row[1])).collect();
+    /// assert_eq!(twice, [(24, 0)]);
+    /// # Ok::<(), ach::Refusal>(())
+    /// ```
+    pub by_code: [u64; 24],
 }
 
 fn granted(answer: u64) -> Result<(), Refusal> {

@@ -57,7 +57,7 @@ impl fmt::Display for Refusal {
 impl std::error::Error for Refusal {}
 
 /// What each number means.
-const REASONS: [(u8, &str); 30] = [
+const REASONS: [(u8, &str); 31] = [
     (1, "the length of the file is wrong"),
     (2, "the data end where a record is still due"),
     (3, "a record of this type may not stand here"),
@@ -85,6 +85,7 @@ const REASONS: [(u8, &str); 30] = [
     (25, "there is no entry of this number"),
     (26, "the record is not followed by CR LF"),
     (27, "no entry would be left"),
+    (28, "a zero-dollar remittance stands in a PPD batch or has no addendum"),
     (29, "the line is not six fields with commas between them"),
     (30, "the amount of the line is not digits, a point and two digits, or is too large"),
     (32, "the field of the line is too long for its columns"),
@@ -94,7 +95,7 @@ const REASONS: [(u8, &str); 30] = [
 ///
 /// ```
 /// assert_eq!(ach::reason(12), Some("the check digit is wrong"));
-/// assert_eq!(ach::reason(28), None);
+/// assert_eq!(ach::reason(99), None);
 /// ```
 pub fn reason(number: u8) -> Option<&'static str> {
     REASONS.iter().find(|(known, _)| *known == number).map(|(_, words)| *words)

@@ -2,6 +2,7 @@
 
 use ach::{Refusal, Way};
 use generate::lists::{list_of, rows_of, List};
+use generate::remittances::with_prenotes_for_remittances;
 use generate::{plan, sample, Entry, Random};
 
 const FILE_ROW: &[u8] = include_bytes!("../../../samples/team.file-row");
@@ -89,7 +90,7 @@ fn results_in_memory_of_their_own() {
     let mut random = Random::new(8);
     for (most_batches, most_entries) in [(1, 1), (1, 40), (20, 1), (6, 6)] {
         for _ in 0..50 {
-            let plan = plan(&mut random, most_batches, most_entries);
+            let plan = with_prenotes_for_remittances(plan(&mut random, most_batches, most_entries));
             let List { file_row, batch_row, lines } = list_of(&mut random, &plan, 0);
             let table = ach::import(&file_row, &batch_row, &lines).unwrap();
             let in_first_batch = plan.batches[0].entries.len();

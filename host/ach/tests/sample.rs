@@ -11,7 +11,7 @@ fn the_sample_is_accepted() {
     assert_eq!((held.batches, held.entries, held.addenda), (1, 2, 1));
     assert_eq!((held.debit, held.credit), (0, 12_550));
     assert_eq!(held.by_code[..2], [2, 12_550]);
-    assert_eq!(held.by_code[2..], [0; 14]);
+    assert_eq!(held.by_code[2..], [0; 22]);
 }
 
 #[test]
@@ -138,5 +138,5 @@ fn a_refusal_speaks() {
     assert_eq!(words(8, 0), "refusal 6: something other than digits stands here (record 8)");
     assert!(words(8, 3).ends_with("stands here (record 8, field 3)"));
     let known: Vec<u8> = (0..=255).filter(|number| ach::reason(*number).is_some()).collect();
-    assert_eq!(known, (1..=27).chain([29, 30, 32]).collect::<Vec<u8>>());
+    assert_eq!(known, (1..=30).chain([32]).collect::<Vec<u8>>());
 }

@@ -27,7 +27,7 @@ fn every_sample_has_its_line() {
 fn every_table_is_its_files() {
     let files = files();
     let tables: Vec<&String> = files.keys().filter(|name| name.ends_with(".table")).collect();
-    assert_eq!(tables.len(), 11);
+    assert_eq!(tables.len(), 12);
     for name in tables {
         let (table, plain) = (&files[name], &files[&name.replace(".table", ".ach")]);
         let lined = generate::lines::lined(plain);

@@ -81,17 +81,12 @@ impl<'f> Place<'f> {
             Own::Account => {
                 words("capital letters, digits and hyphens from the first column on, then blanks")
             }
-            Own::Flag => words("1 if an addendum follows, else 0"),
         }
     }
 
     fn near(&self, near: Near) -> Due {
         match near {
-            Near::Code => match part(b'5', 2, self.header()) {
-                b"220" => words("22, 23, 32 or 33: the batch is for credits"),
-                b"225" => words("27, 28, 37 or 38: the batch is for debits"),
-                _ => words("22, 23, 32 or 33 for a credit, 27, 28, 37 or 38 for a debit"),
-            },
+            Near::Code => self.code(),
             Near::CheckDigit => {
                 let bank = part(b'6', 3, self.record);
                 text([check_digit(bank)], "if the eight digits before it are right")
@@ -109,7 +104,28 @@ impl<'f> Place<'f> {
                     words(format!("digits, more than the batch before has: {before}"))
                 }
             },
+            Near::Flag if is_remittance(part(b'6', 2, self.record)) => {
+                text("1", "and an addendum behind the entry: a remittance is sent for its text")
+            }
+            Near::Flag => words("1 if an addendum follows, else 0"),
         }
+    }
+
+    /// The codes that the batch's class and entry class allow.
+    fn code(&self) -> Due {
+        let (credits, debits) = match part(b'5', 6, self.header()) {
+            b"CCD" => ("22, 23, 24, 32, 33 or 34", "27, 28, 29, 37, 38 or 39"),
+            _ => ("22, 23, 32 or 33", "27, 28, 37 or 38"),
+        };
+        let mut codes = match part(b'5', 2, self.header()) {
+            b"220" => format!("{credits}: the batch is for credits"),
+            b"225" => format!("{debits}: the batch is for debits"),
+            _ => format!("{credits} for a credit, {debits} for a debit"),
+        };
+        if self.number == 28 {
+            codes += "; zero-dollar remittances stand in CCD batches, and this one is PPD";
+        }
+        words(codes)
     }
 
     fn trace(&self) -> Due {
@@ -197,6 +213,9 @@ pub fn next_types(way: Way, before: &[u8]) -> Due {
 fn amount_of(code: &[u8]) -> Due {
     match code {
         b"23" | b"28" | b"33" | b"38" => text("0000000000", "since the code is a prenote's"),
+        code if is_remittance(code) => {
+            text("0000000000", "since the code is a zero-dollar remittance's")
+        }
         _ => words("ten digits, from 0.01 to 99999999.99"),
     }
 }
@@ -228,8 +247,12 @@ fn cents<'f>(records: impl Iterator<Item = &'f [u8]>, credit: bool) -> u64 {
     of_side.map(|entry| of_digits(part(b'6', 6, entry))).sum()
 }
 
-pub fn is_credit(code: &[u8]) -> bool {
-    matches!(code, b"22" | b"23" | b"32" | b"33")
+fn is_credit(code: &[u8]) -> bool {
+    matches!(code, b"22" | b"23" | b"24" | b"32" | b"33" | b"34")
+}
+
+fn is_remittance(code: &[u8]) -> bool {
+    matches!(code, b"24" | b"29" | b"34" | b"39")
 }
 
 /// The digit that brings the weighted sum to a multiple of ten.
@@ -273,7 +296,7 @@ mod tests {
                 tried.insert(refusal.number);
             }
             let numbers: Vec<u8> = tried.into_iter().collect();
-            assert_eq!(numbers, [3, 5, 6, 12, 14, 16, 18, 19, 21, 22]);
+            assert_eq!(numbers, [3, 5, 6, 11, 12, 14, 16, 18, 19, 21, 22, 28]);
         }
     }
 

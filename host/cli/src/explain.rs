@@ -59,14 +59,15 @@ fn numbers_of(kind: Kind) -> &'static [u8] {
         Kind::Own(Destination) => &[5, 6, 12],
         Kind::Own(Origin | Class) => &[6, 11],
         Kind::Own(Time) => &[6, 10],
-        Kind::Own(Modifier | EntryClass | Flag) => &[11],
+        Kind::Own(Modifier | EntryClass) => &[11],
         Kind::Own(Bank) => &[6, 13],
         Kind::Own(Account) => &[7, 8, 9],
-        Kind::Near(Code) => &[6, 11, 15],
+        Kind::Near(Code) => &[6, 11, 15, 28],
         Kind::Near(CheckDigit) => &[6, 12],
         Kind::Near(Amount) => &[6, 14],
         Kind::Near(Trace | EntryTrace) => &[6, 16],
         Kind::Near(BatchNumber) => &[6, 17],
+        Kind::Near(Flag) => &[11, 28],
         Kind::AsBatch(_) => &[22],
         Kind::Count(_) => &[6, 18],
         Kind::Hash(_) => &[6, 19],
@@ -75,7 +76,7 @@ fn numbers_of(kind: Kind) -> &'static [u8] {
 }
 
 /// What each number asks for.
-const ADVICE: [(u8, &str); 30] = [
+const ADVICE: [(u8, &str); 31] = [
     (1, "A file is records of 94 bytes, back to back, without line ends: 94 to 94,000,000 bytes. With\n\
      --lined it is records of 96 bytes, CR LF behind each, the last one too: 96 to 96,000,000 bytes."),
     (2, "The file ends early. Part of it is missing, or the fillers behind the file control are."),
@@ -93,9 +94,10 @@ const ADVICE: [(u8, &str); 30] = [
     (12, "The ninth digit of a bank's number is made from the eight before it. Compare the number with\n\
      a voided check or ask the bank."),
     (13, "The numbers of banks that receive payments begin with 0, 1, 2 or 3."),
-    (14, "Codes 23, 28, 33 and 38 are prenotes and carry 0; the others carry 0.01 to 99999999.99."),
-    (15, "Under class 220 stand credits (22, 23, 32, 33), under 225 debits (27, 28, 37, 38), under 200\n\
-     both."),
+    (14, "Codes 23, 28, 33 and 38 are prenotes, 24, 29, 34 and 39 zero-dollar remittances; they carry 0.\n\
+     The others carry 0.01 to 99999999.99."),
+    (15, "Under class 220 stand credits (22, 23, 24, 32, 33, 34), under 225 debits (27, 28, 29, 37, 38,\n\
+     39), under 200 both."),
     (16, "A trace number is the batch's bank and a number that is greater than in the entry before;\n\
      numbers may be left out, and each batch begins anew with 1 or more. An addendum repeats it."),
     (17, "Batch numbers start at 1 or above, and each is greater than the one before."),
@@ -111,6 +113,8 @@ const ADVICE: [(u8, &str); 30] = [
      Without --lined there are no line ends, and this number is not given."),
     (27, "A file has at least one entry, so they cannot all be taken out. To recall every payment of a\n\
      file, do not send it."),
+    (28, "Codes 24, 29, 34 and 39 are zero-dollar remittances. They stand in CCD batches only, carry 0 and\n\
+     have an addendum with the text that they are sent for. A list has no addenda, so it has none of them."),
     (29, "A line has six fields with commas between them: code, routing number, account, amount,\n\
      identification, name. A field with a comma, a quote or a break in it stands in quotes, and a\n\
      quote in it is doubled. CR LF ends a line. There is no header line and no empty line."),

@@ -194,13 +194,19 @@ fn in_file(given: &Import, refusal: Refusal) -> Explanation {
         _ => return explanation,
     };
     explanation.place = format!("{from}; {}", explanation.place);
+    if refusal.number == 28 {
+        explanation.due =
+            "a payment or a prenote: zero-dollar remittances have addenda, and a list has none"
+                .into();
+    }
     explanation
 }
 
 /// The field of a line that an entry's field comes from.
 fn field_of_line(field: u8) -> Option<usize> {
     match field {
-        2 => Some(1),
+        // No line has an addendum, which is wrong for some codes.
+        2 | 10 => Some(1),
         3 | 4 => Some(2),
         5..=8 => Some(usize::from(field) - 2),
         _ => None,
@@ -245,7 +251,9 @@ mod tests {
             }
             numbers.insert(refusal.number);
         }
-        assert!([3, 6, 7, 8, 9, 11, 12, 14, 29, 30, 32].iter().all(|seen| numbers.contains(seen)));
+        assert!([3, 6, 7, 8, 9, 11, 12, 14, 28, 29, 30, 32]
+            .iter()
+            .all(|seen| numbers.contains(seen)));
     }
 
     fn first_that_is_none(list: &[u8]) -> Option<u64> {

@@ -585,7 +585,7 @@ mod tests {
             "read a -o b --batch-row r",
             "explain 12 --lined",
             "explain 0",
-            "explain 28",
+            "explain 35",
             "explain 31",
             "explain 33",
             "explain 257",

@@ -59,13 +59,13 @@ fn entry_line(number: u64, entry: &[u8], to: &mut impl Write) -> io::Result<()> 
 }
 
 fn totals(held: &Acceptance, to: &mut impl Write) -> io::Result<()> {
-    writeln!(to, "\ncode                          entries           amount")?;
+    writeln!(to, "\ncode                             entries           amount")?;
     for (code, row) in ach::CODES.iter().zip(held.by_code.chunks_exact(2)) {
         let about = about(*code);
-        writeln!(to, "{code} {about:<24} {:>9} {:>16}", row[0], spelled(row[1]))?;
+        writeln!(to, "{code} {about:<27} {:>9} {:>16}", row[0], spelled(row[1]))?;
     }
-    writeln!(to, "all debits {:>43}", spelled(held.debit))?;
-    writeln!(to, "all credits {:>42}", spelled(held.credit))?;
+    writeln!(to, "all debits {:>46}", spelled(held.debit))?;
+    writeln!(to, "all credits {:>45}", spelled(held.credit))?;
     writeln!(to, "batches {}, entries {}, addenda {}", held.batches, held.entries, held.addenda)
 }
 
@@ -73,12 +73,16 @@ fn about(code: u8) -> &'static str {
     match code {
         22 => "checking, credit",
         23 => "checking, credit prenote",
+        24 => "checking, credit remittance",
         27 => "checking, debit",
         28 => "checking, debit prenote",
+        29 => "checking, debit remittance",
         32 => "savings, credit",
         33 => "savings, credit prenote",
+        34 => "savings, credit remittance",
         37 => "savings, debit",
-        _ => "savings, debit prenote",
+        38 => "savings, debit prenote",
+        _ => "savings, debit remittance",
     }
 }
 

@@ -255,17 +255,21 @@ batch 0000001: LANTERN GOODS CO, PAYROLL, PPD credits, due 2026-11-16
        2  22    322070381  009831740                25.50  OKAFOR, BEN             E-1002
           addendum: REIMBURSEMENT OF TRAVEL, OCTOBER
 
-code                          entries           amount
-22 checking, credit                 2           125.50
-23 checking, credit prenote         0             0.00
-27 checking, debit                  0             0.00
-28 checking, debit prenote          0             0.00
-32 savings, credit                  0             0.00
-33 savings, credit prenote          0             0.00
-37 savings, debit                   0             0.00
-38 savings, debit prenote           0             0.00
-all debits                                        0.00
-all credits                                     125.50
+code                             entries           amount
+22 checking, credit                    2           125.50
+23 checking, credit prenote            0             0.00
+24 checking, credit remittance         0             0.00
+27 checking, debit                     0             0.00
+28 checking, debit prenote             0             0.00
+29 checking, debit remittance          0             0.00
+32 savings, credit                     0             0.00
+33 savings, credit prenote             0             0.00
+34 savings, credit remittance          0             0.00
+37 savings, debit                      0             0.00
+38 savings, debit prenote              0             0.00
+39 savings, debit remittance           0             0.00
+all debits                                           0.00
+all credits                                        125.50
 batches 1, entries 2, addenda 1
 ",
         good.display()
@@ -350,7 +354,7 @@ a doubled quote in it counts once.
 ",
         "",
     );
-    ach!("explain", "28").fails_with("no refusal has the number 28");
+    ach!("explain", "35").fails_with("no refusal has the number 35");
 }
 
 #[test]

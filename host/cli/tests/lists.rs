@@ -4,6 +4,7 @@ mod common;
 
 use common::{fed, Folder, Run, WHOLE_TABLE};
 use generate::lists::{fields_of, list_of, quoted};
+use generate::remittances::with_prenotes_for_remittances;
 use std::fs;
 use std::path::PathBuf;
 
@@ -138,7 +139,7 @@ fn export() {
 fn there_and_back() {
     let mut random = generate::Random::new(9);
     for _ in 0..10 {
-        let plan = generate::plan(&mut random, 1, 8);
+        let plan = with_prenotes_for_remittances(generate::plan(&mut random, 1, 8));
         let list = list_of(&mut random, &plan, 0);
         let desk = Desk::with_rows(&list.file_row, &list.batch_row);
         assert_eq!(desk.import(&list.lines, &[]).status, 0);

@@ -10,8 +10,9 @@ use generate::damage::{
     with_record_doubled, with_record_inserted, with_records_swapped, with_trace, without_record,
 };
 use generate::lines::{lined, random_end_damage, with_end, LINED_RECORD, SHIFTED_ENDS, WRONG_ENDS};
+use generate::remittances::in_ccd;
 use generate::{
-    big_file, is_credit, is_prenote, near_limit, plan, sample, BigFile, Plan, Random, CODES, RECORD,
+    big_file, near_limit, plan, sample, BigFile, Plan, Random, CODES, CODES_IN_PPD, RECORD,
 };
 use independent::Way;
 
@@ -47,7 +48,7 @@ fn both(tally: &mut Tally, about: &str, file: &[u8]) {
     tally.holds("the same answer in both ways", file, plain == with_ends);
 }
 
-/// Puts a file to both sides; the answer and all 21 numbers have to agree.
+/// Puts a file to both sides; the answer and all numbers of the acceptance have to agree.
 fn in_way(tally: &mut Tally, about: &str, way: Way, file: &[u8]) -> Verdict {
     let number = ways::number(way, tally.cases());
     // SAFETY: the pointer comes from a slice of that length.
@@ -76,7 +77,7 @@ fn expected(way: Way, file: &[u8]) -> Verdict {
     };
     let mut numbers = [held.batches, held.entries, held.addenda, held.debit, held.credit].to_vec();
     numbers.extend(held.by_code);
-    let numbers = numbers.try_into().expect("5 and 16 are 21");
+    let numbers = numbers.try_into().expect("5 and 24 are 29");
     Outcome { answer: 0, numbers, memory: &[] }
 }
 
@@ -116,28 +117,16 @@ fn every_byte(tally: &mut Tally, way: Way, mut file: Vec<u8>) {
 
 /// Small files of different make whose parts are damaged one by one.
 fn bases(random: &mut Random) -> Vec<Vec<u8>> {
-    let mut every_code = sample();
-    let batch = &mut every_code.batches[0];
-    batch.class = 200;
-    let model = batch.entries[1].clone();
-    batch.entries.clear();
-    for (code, trace) in CODES.into_iter().zip(5..) {
-        let mut entry = model.clone();
-        entry.code = code;
-        entry.trace = trace;
-        entry.amount = if is_prenote(code) { 0 } else { 10_000 + u64::from(code) };
-        batch.entries.push(entry);
-    }
-    let mut debits = every_code.clone();
-    debits.batches[0].class = 225;
-    debits.batches[0].entries.retain(|entry| !is_credit(entry.code));
-    renumber(&mut debits);
+    let every_code = in_ccd(200, &CODES);
+    let debits = in_ccd(225, &[27, 28, 29, 37, 38, 39]);
+    let mut in_ppd = in_ccd(200, &CODES_IN_PPD);
+    in_ppd.batches[0].entry_class = "PPD".into();
     let mut two_batches = sample();
     let mut second = debits.batches[0].clone();
     second.number = 2;
     two_batches.batches.push(second);
 
-    let mut plans = vec![sample(), every_code, debits, two_batches];
+    let mut plans = vec![sample(), every_code, debits, in_ppd, two_batches];
     plans.extend((0..3).map(|_| plan(random, 3, 3)));
     plans.iter().map(Plan::file).collect()
 }

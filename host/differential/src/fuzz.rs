@@ -11,6 +11,7 @@ use ach::{Refusal, ACCEPTANCE_LENGTH, BATCH_ROW, FILE_ROW};
 use generate::damage::{random_damage, resealed, BORDER_BYTES};
 use generate::lines::{lined, random_end_damage};
 use generate::lists::{list_of, random_list_damage, List};
+use generate::remittances::with_prenotes_for_remittances;
 use generate::tables::{random_row_damage, shape_damage, without_entries};
 use generate::{near_limit, plan, Plan, Random, RECORD};
 use independent::Way;
@@ -167,7 +168,8 @@ fn input(random: &mut Random, way: Way) -> Vec<u8> {
             let damaged = lined(&damaged(random, plan.file()));
             random_end_damage(random, &damaged)
         }
-        14..=17 => list(random, &plan),
+        14 => list(random, &plan),
+        15..=17 => list(random, &with_prenotes_for_remittances(plan)),
         _ => file(damaged(random, plan.file())),
     }
 }

@@ -10,8 +10,9 @@ use generate::lists::{
     fields_of, list_of, quoted, random_field_damage, random_list_damage, replaced, rows_of,
     spelled, Fields, List, AMOUNT, AMOUNTS, PIECES, WIDTHS,
 };
+use generate::remittances::with_prenotes_for_remittances;
 use generate::tables::{random_row_damage, shape_damage, Sections, ENTRY_ROW};
-use generate::{is_prenote, near_limit, plan, sample, Entry, Plan, Random};
+use generate::{is_payment, near_limit, plan, sample, Entry, Plan, Random};
 use independent::Refusal;
 
 const DEFAULT_CASES: u64 = 20_000;
@@ -121,7 +122,7 @@ fn bases(random: &mut Random) -> Vec<List> {
         with(b"\"22\",\"322070381\",\"7\",\"1.00\",\"\",\"A\r\nB\"\r\n22,322070381,7,1.00,,A\r\n"),
     ];
     lists.extend((0..3).map(|_| {
-        let plan = plan(random, 1, 2);
+        let plan = with_prenotes_for_remittances(plan(random, 1, 2));
         list_of(random, &plan, 0)
     }));
     lists
@@ -294,7 +295,10 @@ fn limits(tally: &mut Tally) {
 fn random_lists(tally: &mut Tally, random: &mut Random, cases: u64) {
     for case in 0..cases {
         let most_entries = if case % 50 == 0 { 60 } else { 5 };
-        let plan = plan(random, 2, most_entries);
+        let mut plan = plan(random, 2, most_entries);
+        if !random.one_in(4) {
+            plan = with_prenotes_for_remittances(plan);
+        }
         let mut list = list_of(random, &plan, 0);
         if random.one_in(4) {
             // Entries of another batch, whose codes this one's class may not allow.
@@ -326,6 +330,7 @@ fn random_exports(tally: &mut Tally, random: &mut Random, cases: u64) {
         let table = plan.table();
         export(tally, "a random table", &table);
         imported_again(tally, &table);
+        imported_again(tally, &with_prenotes_for_remittances(plan).table());
         export(tally, "a random table, damaged", &random_row_damage(random, &table));
     }
     for _ in 0..5 {
@@ -343,13 +348,14 @@ fn fill_columns(random: &mut Random, plan: &mut Plan) {
             account: "-".repeat(17),
             identification: sign.repeat(15),
             name: sign.repeat(22),
-            amount: if is_prenote(entry.code) { 0 } else { random.between(1, 99_999) },
+            amount: if is_payment(entry.code) { random.between(1, 99_999) } else { 0 },
             ..entry.clone()
         };
     }
 }
 
-/// Under a class that takes both sides the list of a table is granted.
+/// Under a class that takes both sides the list of a table is granted, unless there is a remittance
+/// in it: in a PPD batch the first one is refused.
 fn imported_again(tally: &mut Tally, table: &[u8]) {
     let (file_row, mut batch_row) = rows_of(&sample(), 0);
     batch_row[..3].copy_from_slice(b"200");
@@ -358,8 +364,18 @@ fn imported_again(tally: &mut Tally, table: &[u8]) {
         return;
     };
     let again = ach::import(&file_row, &batch_row, &lines);
-    let same = again.as_ref().is_ok_and(|again| six_fields(again) == six_fields(table));
-    tally.holds("the six fields come back", table, same);
+    let fields = six_fields(table);
+    let is_remittance = |fields: &&[u8]| matches!(&fields[..2], b"24" | b"29" | b"34" | b"39");
+    match fields.iter().position(is_remittance) {
+        None => {
+            let same = again.as_ref().is_ok_and(|again| six_fields(again) == fields);
+            tally.holds("the six fields come back", table, same);
+        }
+        Some(before) => {
+            let refusal = ach::Refusal { number: 28, record: before as u64 + 3, field: 2 };
+            tally.holds("the first remittance is refused", table, again == Err(refusal));
+        }
+    }
     import(tally, "a list that was exported", &List { file_row, batch_row, lines });
 }
 

@@ -3,6 +3,7 @@
 use crate::columns::{field_count, field_range, place, record_range};
 use crate::plan::is_credit;
 use crate::random::Random;
+use crate::remittances::random_remittance_damage;
 use crate::RECORD;
 
 /// Bytes that lie on both sides of the borders between digits, letters, text and the rest.
@@ -285,6 +286,7 @@ pub fn random_damage(random: &mut Random, file: &[u8]) -> Vec<u8> {
         8 if file[record_range(record).start] == b'6' => {
             with_trace(file, record, *random.pick(&traces_near(file, record)))
         }
+        9 => random_remittance_damage(random, file),
         _ => with_random_value(random, file, record),
     }
 }

@@ -11,12 +11,15 @@ pub mod lists;
 mod plan;
 mod random;
 pub mod recalls;
+pub mod remittances;
 mod shapes;
 pub mod tables;
 
-pub use plan::{is_credit, is_prenote, routing_check_digit, Batch, Builder, Entry, Header, Plan};
+pub use plan::{
+    is_credit, is_payment, is_remittance, routing_check_digit, Batch, Builder, Entry, Header, Plan,
+};
 pub use random::Random;
-pub use shapes::{big_file, near_limit, plan, sample, BigFile, CODES};
+pub use shapes::{big_file, near_limit, plan, sample, BigFile, CODES, CODES_IN_PPD};
 
 /// How many columns a record has; without line ends, so many bytes as well.
 pub const RECORD: usize = 94;

@@ -294,11 +294,17 @@ impl Builder {
 }
 
 pub fn is_credit(code: u32) -> bool {
-    matches!(code, 22 | 23 | 32 | 33)
+    matches!(code, 22..=24 | 32..=34)
 }
 
-pub fn is_prenote(code: u32) -> bool {
-    matches!(code, 23 | 28 | 33 | 38)
+/// Whether entries of the code carry money: neither prenotes nor remittances do.
+pub fn is_payment(code: u32) -> bool {
+    matches!(code, 22 | 27 | 32 | 37)
+}
+
+/// Whether the code is a zero-dollar remittance's.
+pub fn is_remittance(code: u32) -> bool {
+    matches!(code, 24 | 29 | 34 | 39)
 }
 
 pub fn routing_check_digit(routing: u32) -> u32 {

@@ -1,10 +1,12 @@
 //! Plans: the sample, random ones, ones at the limit of the totals, and the biggest file.
 
-use crate::plan::{is_credit, is_prenote, Batch, Builder, Entry, Header, Plan};
+use crate::plan::{is_credit, is_payment, is_remittance, Batch, Builder, Entry, Header, Plan};
 use crate::random::Random;
 
 /// The known transaction codes in rising order.
-pub const CODES: [u32; 8] = [22, 23, 27, 28, 32, 33, 37, 38];
+pub const CODES: [u32; 12] = [22, 23, 24, 27, 28, 29, 32, 33, 34, 37, 38, 39];
+/// Those that a PPD batch may have.
+pub const CODES_IN_PPD: [u32; 8] = [22, 23, 27, 28, 32, 33, 37, 38];
 const LARGEST_AMOUNT: u64 = 9_999_999_999;
 const LARGEST_TOTAL: u64 = 999_999_999_999;
 
@@ -146,15 +148,7 @@ fn next_entry(random: &mut Random, batch: &Batch, trace: u32, money: &mut Money)
             return Entry { trace, ..before.clone() };
         }
     }
-    let allowed: Vec<u32> = CODES
-        .into_iter()
-        .filter(|&code| match batch.class {
-            220 => is_credit(code),
-            225 => !is_credit(code),
-            _ => true,
-        })
-        .collect();
-    let mut code = *random.pick(&allowed);
+    let mut code = *random.pick(&codes_for(batch));
     let mut amount = amount(random, code);
     if !money.spend(code, amount) {
         // The file is full of money on this side: the code's prenote moves none.
@@ -170,8 +164,19 @@ fn next_entry(random: &mut Random, batch: &Batch, trace: u32, money: &mut Money)
         name: mandatory(random, 22),
         discretionary: optional(random, 2),
         trace,
-        addendum: random.one_in(3).then(|| optional(random, 80)),
+        addendum: (is_remittance(code) || random.one_in(3)).then(|| optional(random, 80)),
     }
+}
+
+/// The codes that the batch's class and entry class allow.
+fn codes_for(batch: &Batch) -> Vec<u32> {
+    let known = if batch.entry_class == "CCD" { &CODES[..] } else { &CODES_IN_PPD };
+    let of_side = |code: &&u32| match batch.class {
+        220 => is_credit(**code),
+        225 => !is_credit(**code),
+        _ => true,
+    };
+    known.iter().filter(of_side).copied().collect()
 }
 
 /// What the file's entries have come to so far on each side.
@@ -194,7 +199,7 @@ impl Money {
 }
 
 fn amount(random: &mut Random, code: u32) -> u64 {
-    if is_prenote(code) {
+    if !is_payment(code) {
         return 0;
     }
     match random.below(6) {
@@ -308,8 +313,8 @@ fn fill_batch(random: &mut Random, shape: &BigFile, builder: &mut Builder, batch
 }
 
 fn big_entry(random: &mut Random, model: &Batch, trace: u32, addendum: bool) -> Entry {
-    let code = *random.pick(&CODES);
-    let amount = if is_prenote(code) { 0 } else { random.between(1, 900_000) };
+    let code = *random.pick(&CODES_IN_PPD);
+    let amount = if is_payment(code) { random.between(1, 900_000) } else { 0 };
     Entry {
         code,
         routing: random.below(40_000_000) as u32,

@@ -173,6 +173,7 @@ impl<'f> Checker<'f> {
             b"1" => b"7".as_slice(),
             _ => return Err(ADDENDUM.fault(reason::UNKNOWN_VALUE)),
         };
+        ADDENDUM.require(!code.is_remittance() || allowed_next == b"7", reason::REMITTANCE)?;
         self.entry_trace(record)?;
         self.count_entry(code, routing, amount);
         Ok(allowed_next)
@@ -183,6 +184,8 @@ impl<'f> Checker<'f> {
         let code = Code::known(CODE.digits(record)?);
         let code = code.ok_or(CODE.fault(reason::UNKNOWN_VALUE))?;
         CODE.require(code.fits_class(self.batch.class), reason::SIDE_OF_CLASS)?;
+        let in_ccd = || batch_header::ENTRY_CLASS.of(self.batch.header) == b"CCD";
+        CODE.require(!code.is_remittance() || in_ccd(), reason::REMITTANCE)?;
         Ok(code)
     }
 

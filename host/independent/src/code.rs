@@ -6,40 +6,59 @@ pub enum Side {
     Credit,
 }
 
+/// What entries of a code are sent for.
+#[derive(Clone, Copy, PartialEq, Eq)]
+enum Use {
+    Payment,
+    Prenote,
+    /// A zero-dollar entry, sent for the text in its addendum.
+    Remittance,
+}
+
 /// A known transaction code.
 #[derive(Clone, Copy)]
 pub struct Code {
     /// The code's place among the known ones in rising order, from 0.
     pub rank: usize,
     pub side: Side,
-    pub prenote: bool,
+    used_for: Use,
 }
 
 const LARGEST_AMOUNT: u64 = 9_999_999_999;
 
 impl Code {
     pub fn known(code: u64) -> Option<Code> {
-        let (rank, side, prenote) = match code {
-            22 => (0, Side::Credit, false),
-            23 => (1, Side::Credit, true),
-            27 => (2, Side::Debit, false),
-            28 => (3, Side::Debit, true),
-            32 => (4, Side::Credit, false),
-            33 => (5, Side::Credit, true),
-            37 => (6, Side::Debit, false),
-            38 => (7, Side::Debit, true),
+        let (rank, side, used_for) = match code {
+            22 => (0, Side::Credit, Use::Payment),
+            23 => (1, Side::Credit, Use::Prenote),
+            24 => (2, Side::Credit, Use::Remittance),
+            27 => (3, Side::Debit, Use::Payment),
+            28 => (4, Side::Debit, Use::Prenote),
+            29 => (5, Side::Debit, Use::Remittance),
+            32 => (6, Side::Credit, Use::Payment),
+            33 => (7, Side::Credit, Use::Prenote),
+            34 => (8, Side::Credit, Use::Remittance),
+            37 => (9, Side::Debit, Use::Payment),
+            38 => (10, Side::Debit, Use::Prenote),
+            39 => (11, Side::Debit, Use::Remittance),
             _ => return None,
         };
-        Some(Code { rank, side, prenote })
+        Some(Code { rank, side, used_for })
     }
 
-    /// A prenote moves no money; every other entry does.
+    /// A payment moves money; no other entry does.
     pub fn may_carry(self, amount: u64) -> bool {
-        if self.prenote {
-            amount == 0
-        } else {
+        if self.used_for == Use::Payment {
             (1..=LARGEST_AMOUNT).contains(&amount)
+        } else {
+            amount == 0
         }
+    }
+
+    /// Whether it is a zero-dollar remittance's, which stands in CCD batches only and has an
+    /// addendum.
+    pub fn is_remittance(self) -> bool {
+        self.used_for == Use::Remittance
     }
 
     /// Whether a batch of this service class may hold the code; class 200 takes both sides.

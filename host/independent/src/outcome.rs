@@ -29,6 +29,8 @@ pub mod reason {
     pub const NO_SUCH_ENTRY: u8 = 25;
     pub const LINE_END: u8 = 26;
     pub const NO_ENTRY_LEFT: u8 = 27;
+    /// A zero-dollar remittance in a PPD batch, or without its addendum.
+    pub const REMITTANCE: u8 = 28;
     /// These three are of a client's list, and its line stands for the record.
     pub const NO_LINE: u8 = 29;
     pub const LINE_AMOUNT: u8 = 30;
@@ -57,8 +59,9 @@ pub struct Acceptance {
     pub addenda: u64,
     pub debit: u64,
     pub credit: u64,
-    /// How many entries and how many cents, for the codes 22, 23, 27, 28, 32, 33, 37, 38 in turn.
-    pub by_code: [u64; 16],
+    /// How many entries and how many cents, for the codes 22, 23, 24, 27, 28, 29, 32, 33, 34, 37, 38,
+    /// 39 in turn.
+    pub by_code: [u64; 24],
 }
 
 /// The line of the check program.

@@ -1,6 +1,6 @@
 //! Altering one amount, and asking for one addendum.
 
-use generate::{is_prenote, near_limit, plan, sample, Batch, Entry, Plan, Random};
+use generate::{is_payment, near_limit, plan, sample, Batch, Entry, Plan, Random};
 use independent::{addendum, alter, Refusal, Way};
 
 fn refused<T: std::fmt::Debug>(result: Result<T, Refusal>) -> (u8, u64, u8) {
@@ -21,7 +21,7 @@ fn an_altered_file_is_the_one_written_afresh() {
         for _ in 0..20 {
             let number = random.below(plan.entry_count());
             let entry = entries(&mut plan).nth(number).unwrap();
-            if is_prenote(entry.code) {
+            if !is_payment(entry.code) {
                 assert_eq!(alter(Way::Plain, &mut file, number as u64 + 1, 0), Ok(0));
                 continue;
             }

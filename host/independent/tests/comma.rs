@@ -1,5 +1,6 @@
 //! Client lists: the grammar of lines, their fields, the rows, the formed file, and the way back.
 
+use generate::remittances::with_prenotes_for_remittances;
 use generate::tables::Sections;
 use generate::{plan, sample, Batch, Entry, Plan, Random};
 use independent::{check, export, export_into, import, import_into, write, Refusal, Way};
@@ -377,7 +378,8 @@ fn too_short_is_the_formed_files() {
         (3, "12 3", (9, 3, 5)),
         (6, "", (8, 3, 8)),
         (6, "Ada", (7, 3, 8)),
-        (1, "24", (11, 3, 2)),
+        (1, "25", (11, 3, 2)),
+        (1, "24", (28, 3, 2)),
         (1, "27", (15, 3, 2)),
     ] {
         assert_eq!(refused(with(field, text)), refusal, "{field} {text}");
@@ -592,7 +594,7 @@ fn what_is_exported_is_imported_again() {
     batch_row[..3].copy_from_slice(b"200");
     let mut random = Random::new(4);
     for _ in 0..500 {
-        let plan = plan(&mut random, 4, 6);
+        let plan = with_prenotes_for_remittances(plan(&mut random, 4, 6));
         let lines = exported(&plan);
         let table = import(&file_row, &batch_row, lines.as_bytes()).unwrap();
         assert_eq!(fields_of(&table), fields_of(&plan.table()));
@@ -612,7 +614,7 @@ fn fields_of(table: &[u8]) -> Vec<Vec<u8>> {
 fn a_lists_own_table_comes_back() {
     let mut random = Random::new(5);
     for _ in 0..200 {
-        let mut random_plan = plan(&mut random, 1, 6);
+        let mut random_plan = with_prenotes_for_remittances(plan(&mut random, 1, 6));
         let Batch { entries, .. } = random_plan.batches.remove(0);
         let mut plan = plan_of(entries);
         plan.batches[0].class = 200;

@@ -8,7 +8,7 @@ const WHOLE_TABLE: &[u8] = include_bytes!("../../../samples/whole.table");
 
 #[test]
 fn the_sample_is_accepted() {
-    let mut by_code = [0; 16];
+    let mut by_code = [0; 24];
     by_code[..2].copy_from_slice(&[2, 12_550]);
     let expected =
         Acceptance { batches: 1, entries: 2, addenda: 1, debit: 0, credit: 12_550, by_code };

@@ -126,6 +126,40 @@ pub fn union() -> Plan {
     plan
 }
 
+/// A corporate client's settlements with its suppliers: a payment, a prenote, and entries of nothing
+/// that carry the remittance text alone, for checking and savings, credits and debits.
+pub fn remittances() -> Plan {
+    let mut entries = entries(&[
+        (22, 32_207_038, "4410-22871", 124_000, "S-301", "ASHDOWN TIMBER"),
+        (24, 32_207_038, "4410-22871", 0, "S-301", "ASHDOWN TIMBER"),
+        (24, 5_300_021, "009831740", 0, "S-302", "BRINE AND SALT LTD"),
+        (34, 2_130_264, "SV-77", 0, "S-303", "CORDAGE WORKS"),
+        (29, 1_100_234, "8800152", 0, "S-304", "DYEWORKS"),
+        (39, 1_100_234, "SV-78", 0, "S-305", "ELM COOPERAGE"),
+        (23, 32_207_038, "70-000009", 0, "S-306", "FERN NURSERY"),
+    ]);
+    let texts = [
+        "RMR*IV*20871*PI*1240.00*1240.00\\",
+        "RMR*IV*20844**0*480.00*480.00\\NTE**SETTLED BY CREDIT MEMO 77\\",
+        "RMR*IV*9915**0*75.20*75.20\\NTE**RETURNED GOODS\\",
+        "RMR*CM*512**0*60.00\\",
+        "RMR*IV*1003**0*18.40*18.40\\NTE**NETTED AGAINST 1002\\",
+        "NTE**NOTHING DUE FOR OCTOBER\\",
+    ];
+    for (entry, text) in entries.iter_mut().zip(texts) {
+        entry.addendum = Some(text.into());
+    }
+    let mut plan = sample();
+    plan.batches = vec![Batch {
+        class: 200,
+        entry_class: "CCD".into(),
+        description: "SETTLEMENT".into(),
+        entries,
+        ..plan.batches.remove(0)
+    }];
+    plan
+}
+
 /// What the client's list `team.csv` is imported as.
 pub fn team() -> Plan {
     let mut plan = sample();

@@ -43,6 +43,7 @@ fn plans() -> Vec<(&'static str, Plan)> {
         ("gaps", accepted::gaps()),
         ("recalled", accepted::recalled()),
         ("union", accepted::union()),
+        ("remittances", accepted::remittances()),
         ("team", accepted::team()),
     ]
 }

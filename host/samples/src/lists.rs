@@ -28,6 +28,10 @@ pub fn all() -> Vec<Sample> {
         ("refused/amount-grouped.csv", with("2000.00", "\"2,000.00\"")),
         ("refused/name-long.csv", with("DE LUCA ELENA", "DE LUCA ELENA FRANCESCA")),
         ("refused/routing-number.csv", with("053000219", "053000218")),
+        (
+            "refused/remittance.csv",
+            with("22,021302648,70-000004,012.50", "24,021302648,70-000004,0.00"),
+        ),
     ];
     files.map(|(name, bytes)| Sample { name: name.into(), bytes }).into()
 }

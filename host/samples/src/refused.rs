@@ -1,12 +1,14 @@
 //! Files that are refused, each for one fault.
 
 use crate::{accepted, Sample};
-use generate::damage::{with_field, with_trace, without_record};
+use generate::damage::{resealed, with_field, with_trace, without_record};
 use generate::lines::lined;
+use generate::remittances::{with_entry_class, without_addendum};
 use generate::{sample, RECORD};
 
 pub fn all() -> Vec<Sample> {
     let whole = sample().file();
+    let remittances = accepted::remittances().file();
     let with = |record, field, text: &str| with_field(&whole, record, field, text);
     let files = [
         ("empty", Vec::new()),
@@ -26,6 +28,8 @@ pub fn all() -> Vec<Sample> {
         ("entry-lost", without_record(&accepted::eleven().file(), 20)),
         ("bank-blank", with_field(&accepted::loans().file(), 2, 12, "        ")),
         ("blocks-as-printed", with_field(&accepted::loans().file(), 16, 3, "000001")),
+        ("remittance-ppd", with_entry_class(&remittances, 5, "PPD")),
+        ("remittance-bare", resealed(&without_addendum(&remittances, 5))),
         ("hash-as-printed", with_field(&accepted::taxes().file(), 6, 4, "0064404066")),
     ];
     let named = files.map(|(name, bytes)| Sample { name: format!("refused/{name}.ach"), bytes });

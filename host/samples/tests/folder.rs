@@ -118,6 +118,32 @@ fn letters_stand_in_accounts() {
     assert_eq!(accounts, [b"CU-7K2B          ", b"SAVINGS          ", b"M0ABCDEFGHIJKLXYZ"]);
 }
 
+/// Every zero-dollar code is there, with nothing to pay and a text behind it; in the refused files
+/// one of these is missing, or the entry class.
+#[test]
+fn remittances_carry_text_alone() {
+    let file = content("remittances.ach");
+    let records: Vec<&[u8]> = file.chunks(94).collect();
+    let is_remittance = |code: &[u8]| [b"24", b"29", b"34", b"39"].iter().any(|one| *one == code);
+    let pairs =
+        records.windows(2).filter(|pair| pair[0][0] == b'6' && is_remittance(&pair[0][1..3]));
+    let codes: Vec<&[u8]> = pairs
+        .map(|pair| {
+            assert_eq!(
+                (&pair[0][29..39], pair[0][78], pair[1][0]),
+                (b"0000000000".as_slice(), b'1', b'7')
+            );
+            assert_ne!(pair[1][3..83], [b' '; 80]);
+            &pair[0][1..3]
+        })
+        .collect();
+    assert_eq!(codes, [b"24", b"24", b"34", b"29", b"39"]);
+    assert_eq!(&records[1][50..53], b"CCD");
+    let ppd = content("refused/remittance-ppd.ach");
+    assert_eq!(ppd.iter().zip(&file).filter(|(new, old)| new != old).count(), 2);
+    assert_eq!(content("refused/remittance-bare.ach")[4 * 94 + 78], b'0');
+}
+
 fn entries(file: &[u8]) -> Vec<&[u8]> {
     file.chunks(94).filter(|record| record[0] == b'6').collect()
 }

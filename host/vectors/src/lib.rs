@@ -5,6 +5,7 @@
 
 mod fields;
 mod lines;
+mod remittances;
 mod structure;
 mod values;
 
@@ -29,6 +30,7 @@ pub fn all() -> Vec<Vector> {
     structure::collect(&mut collection);
     fields::collect(&mut collection);
     values::collect(&mut collection);
+    remittances::collect(&mut collection);
     for Vector { about, file, .. } in &collection.vectors {
         assert!(file.len() <= LONGEST, "{about}: too long to be looked at");
     }

@@ -114,7 +114,7 @@ fn blocks(to: &mut Collection) {
 
 fn first_fault_wins(to: &mut Collection) {
     let file = sample().file();
-    let two_fields = with_field(&with_field(&file, 3, 2, "24"), 3, 4, "A");
+    let two_fields = with_field(&with_field(&file, 3, 2, "25"), 3, 4, "A");
     to.refused("field 2 before field 4, though 11 is more than 6", two_fields, (11, 3, 2));
     let two_records = with_field(&with_field(&file, 2, 13, "0000000"), 3, 2, "2A");
     to.refused("record 2 before record 3, though 17 is more than 6", two_records, (17, 2, 13));

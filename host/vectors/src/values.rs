@@ -2,7 +2,8 @@
 
 use crate::Collection;
 use generate::damage::with_field;
-use generate::{is_prenote, near_limit, sample, Batch, Entry, Plan, CODES};
+use generate::remittances::of_code;
+use generate::{near_limit, sample, Batch, Entry, Plan, CODES_IN_PPD};
 
 const LARGEST_AMOUNT: u64 = 9_999_999_999;
 
@@ -27,17 +28,11 @@ fn with_class(class: u32, count: u32, make: impl Fn(u32, Entry) -> Entry) -> Pla
     plan
 }
 
-/// An entry of this code with an amount that suits it.
-fn of_code(code: u32, entry: Entry) -> Entry {
-    let amount = if is_prenote(code) { 0 } else { entry.amount };
-    Entry { code, amount, ..entry }
-}
-
 fn codes(to: &mut Collection) {
     let under = |class, codes: &[u32]| {
         with_class(class, codes.len() as u32, |index, entry| of_code(codes[index as usize], entry))
     };
-    to.accepted("all codes under class 200", &under(200, &CODES));
+    to.accepted("all codes of a PPD batch under class 200", &under(200, &CODES_IN_PPD));
     to.accepted("the credit codes under class 220", &under(220, &[22, 23, 32, 33]));
     to.accepted("the debit codes under class 225", &under(225, &[27, 28, 37, 38]));
     for (class, code) in [(220, 37), (225, 22), (225, 23)] {

@@ -44,7 +44,7 @@ abbrev μ-loop : tie.MeasureT-loop
 μ-loop way file size wide groups place sums header bycode at rec line said count number₀ k₀ number k = count - k
 
 abbrev Inv-records : tie.InvT-records
-Inv-records way file size wide groups place₀ sums₀ header₀ bycode₀ at₀ place sums header bycode at = Fair (state place sums header bycode) × (at ≡ recordBytes way * sums .records) × (at ≤ length file) × (left way file (state place sums header bycode) at ≡ checkedOf way file) × (length header ≡ 94) × (length bycode ≡ 16)
+Inv-records way file size wide groups place₀ sums₀ header₀ bycode₀ at₀ place sums header bycode at = Fair (state place sums header bycode) × (at ≡ recordBytes way * sums .records) × (at ≤ length file) × (left way file (state place sums header bycode) at ≡ checkedOf way file) × (length header ≡ 94) × (length bycode ≡ 24)
 
 abbrev μ-records : tie.MeasureT-records
 μ-records way file size wide groups place₀ sums₀ header₀ bycode₀ at₀ place sums header bycode at = length file - at

@@ -12,10 +12,10 @@ use Rattle.ach_c.proofs.put_rows.Reads as reads
 use Rattle.ach_c.proofs.put_rows.Lts as lts
 
 abbrev Inv-loop : tie.InvT-loop
-Inv-loop numbers₀ rows i₀ numbers i = (i ≤ 16) × (sets numbers (5 + i) (drop i rows) ≡ sets numbers₀ 5 rows)
+Inv-loop numbers₀ rows i₀ numbers i = (i ≤ 24) × (sets numbers (5 + i) (drop i rows) ≡ sets numbers₀ 5 rows)
 
 abbrev μ-loop : tie.MeasureT-loop
-μ-loop numbers₀ rows i₀ numbers i = 16 - i
+μ-loop numbers₀ rows i₀ numbers i = 24 - i
 
 -- src/lib.rt:37:5
 loop-holds : tie.Need-loop-holds Inv-loop μ-loop
@@ -55,7 +55,7 @@ loop-again c = (omega (arith, (c .loop-test) .taken), sets-next ((c .before .loo
 
 -- src/lib.rt:33:1
 returns : tie.Need-returns Inv-loop μ-loop
-returns c = let n : length ((c .before .before .args) .t2) ≡ 16 = search needs in let m : length ((c .before .before .args) .t2) ≤ (c .before .loop) .i = omega (arith, n, (c .loop-test) .left) in rw (drop-of-length-le ((c .before .before .args) .t2) m) at ((c .before .loop) .inv .1)
+returns c = let n : length ((c .before .before .args) .t2) ≡ 24 = search needs in let m : length ((c .before .before .args) .t2) ≤ (c .before .loop) .i = omega (arith, n, (c .loop-test) .left) in rw (drop-of-length-le ((c .before .before .args) .t2) m) at ((c .before .loop) .inv .1)
 
 pub put-rows-spec : {M : Type 1} → statement M
 put-rows-spec =

@@ -8,8 +8,8 @@ use Rattle.recalling.proofs.close.close_up.Tie as tie
 use Rattle.recalling.proofs.close.close_up.Reads as reads
 use Rattle.recalling.proofs.close.close_up.Lts as lts
 use Rattle.recalling.proofs.close.record_at.Reads as record-at-reads
-use Rattle.recalling.proofs.step.first.Reads as first-reads
-use Rattle.recalling.proofs.step.pass_record.Reads as pass-record-reads
+use Rattle.moving.proofs.first.Reads as first-reads
+use Rattle.moving.proofs.pass_record.Reads as pass-record-reads
 
 abbrev Inv-loop : tie.InvT-loop
 Inv-loop way file₀ flags count w₀ i₀ file w i = Along way flags file₀ file w i × (i ≤ count)

@@ -1,4 +1,4 @@
-use Rattle.recalling.proofs.PutLaws.{put-length}
+use Rattle.moving.proofs.PutLaws.{put-length}
 use Rattle.near.specs.declared.Sums.{Sums}
 use mathlib.Core.List.{[], _∷_}
 use mathlib.Core.Path.{refl, _∙_, ap}
@@ -16,7 +16,7 @@ use Rattle.recalling.proofs.close.end_file.Reads as reads
 use Rattle.recalling.proofs.close.end_file.Lts as lts
 use Rattle.forming.proofs.forms.file_control.Reads as file-control-reads
 use Rattle.forming.proofs.forms.filler.Reads as filler-reads
-use Rattle.recalling.proofs.step.put.Reads as put-reads
+use Rattle.moving.proofs.put.Reads as put-reads
 
 abbrev Inv-loop : tie.InvT-loop
 Inv-loop way file₀ filler so-far₀ file so-far = Filling way file₀ so-far₀ file so-far × (filler ≡ fillerRecord)

@@ -1,5 +1,5 @@
 use Rattle.recalling.proofs.MarkLaws.{some-found, some-further, some-none}
-use Rattle.recalling.specs.Walk.{someLeft}
+use Rattle.moving.specs.Walk.{someLeft}
 use mathlib.Core.Path.{_≡_}
 use native.Mathlib.Omega.{arith}
 use Prim.Native.Nat.{_+_, _-_, _≤_, _<_}
