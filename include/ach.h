@@ -9,7 +9,9 @@
  * batches, the entries and the addenda, each after its count of six digits. A
  * table holds no line ends; it is the same for both ways of its file. A client's
  * list holds payments as comma lines; it becomes a table by ach_import, and
- * ach_export makes a list of a table's entries.
+ * ach_export makes a list of a table's entries. The rows of a file tell how its
+ * credits grow from batch to batch; ach_check gives them along with acceptance,
+ * and ach_runs_out asks them where a limit is passed.
  *
  * Any bytes of any length may be lent, and every function does its own
  * checking. No function keeps anything between calls or allocates memory, so
@@ -39,7 +41,8 @@ extern "C" {
 #define ACH_LONGEST_LINED 96000000
 
 /*
- * Every function answers 0 if it grants. If it refuses, it answers
+ * Every function but ach_runs_out, which refuses nothing, answers 0 if it
+ * grants. If it refuses, it answers
  *
  *     number + 256 * field + 65536 * record
  *
@@ -76,13 +79,15 @@ extern "C" {
  *  29 line of a list is not six fields in the grammar of RFC 4180
  *  30 amount of a line not in its form, or over 9,999,999,999 cents
  *  32 another field of a line too long for its columns
+ *  34 what is lent with an alteration does not begin with the file's rows
  *
  * The first refusal in the file is given: by record, then by field, then by
  * number. 1 is a length of 0, no multiple of the record's 94 or 96 bytes, or
  * over a million records; so is the lack of the last CR LF. 26 is given in the
  * second way alone, with field 0: after all fields of its record, and before
- * everything of the next one. The record that 4 names is not looked at. 27 is
- * given by ach_take_out alone, 29, 30 and 32 by ach_import alone.
+ * everything of the next one. The record that 4 names is not looked at. 23 is
+ * given last, for bytes as for rows. 27 is given by ach_take_out alone, 34 by
+ * ach_alter alone, 29, 30 and 32 by ach_import alone.
  *
  * The known codes of entries are
  *
@@ -109,14 +114,31 @@ extern "C" {
 #define ACH_ACCEPTANCE_LENGTH 29
 
 /*
+ * The rows of a file: two numbers for each batch, one behind the other.
+ *
+ *   the record number of the batch's control
+ *   the credits so far, in cents: of all entries up to the end of the batch
+ *
+ * The `room` for rows counts numbers, of which each row takes two. A batch has
+ * at least three records, so that n / 141 numbers are always enough room for the
+ * rows of a file of n bytes, and ACH_MOST_ROOM for those of any file. Where rows
+ * are lent, the pointer may be null if room is 0.
+ */
+#define ACH_MOST_ROOM 666664
+
+/*
  * Checks the file of n bytes at `file`. Stops at the first fault. Granted, it
- * fills `acceptance`.
+ * fills `acceptance`, the file's rows stand in front of the `room` numbers at
+ * `rows`, and the numbers behind them stay. A file that is accepted but has more
+ * rows than there is room for is refused (23), after all its own refusals;
+ * `acceptance` is then left alone as well.
  *
  * `file` may be null if n is 0, which is refused (1). Otherwise it points to n
  * bytes, and `acceptance` to ACH_ACCEPTANCE_LENGTH numbers outside of them.
  */
 uint64_t ach_check(uint64_t way, const uint8_t *file, size_t n,
-                   uint64_t acceptance[ACH_ACCEPTANCE_LENGTH]);
+                   uint64_t acceptance[ACH_ACCEPTANCE_LENGTH], uint64_t *rows,
+                   size_t room);
 
 /*
  * Reads the pay table of an accepted file into the `room` bytes at `table`.
@@ -144,13 +166,19 @@ uint64_t ach_write(uint64_t way, const uint8_t *table, size_t n, uint8_t *file,
  * Puts a new amount, in cents, into entry number `entry` (from 1 through the
  * file) of an accepted file, with the totals of its side in the batch's and
  * the file's control; no other byte changes. `difference` is the new amount
- * less the old. Refused: the file's own, 25 no such entry, 14 an amount that
- * the code does not carry (at the entry's record; a prenote and a remittance
- * carry 0 alone), 20 a total that would pass 999,999,999,999 cents (at the
- * batch's control, then at the file's).
+ * less the old. The `room` numbers at `rows` have to begin with the rows of the
+ * file as it is lent; granted, they begin with those of the file after it. What
+ * stands behind is neither read nor written.
+ *
+ * Refused: the file's own; 34 if the file's rows do not stand in front, also
+ * where there is no room for them; 25 no such entry; 14 an amount that the code
+ * does not carry (at the entry's record; a prenote and a remittance carry 0
+ * alone); 20 a total that would pass 999,999,999,999 cents (at the batch's
+ * control, then at the file's).
  */
-uint64_t ach_alter(uint64_t way, uint8_t *file, size_t n, uint64_t entry,
-                   uint64_t amount, int64_t *difference);
+uint64_t ach_alter(uint64_t way, uint8_t *file, size_t n, uint64_t *rows,
+                   size_t room, uint64_t entry, uint64_t amount,
+                   int64_t *difference);
 
 /*
  * Takes entries out of an accepted file: the `count` numbers at `entries` say
@@ -161,16 +189,41 @@ uint64_t ach_alter(uint64_t way, uint8_t *file, size_t n, uint64_t entry,
  * without those rows: traces, batch numbers and all else stay as they were.
  *
  * Granted, the file stands in front of the n bytes, `length` is how many bytes
- * it has, and the bytes behind it are blanks (0x20), in the second way too. No
- * numbers at all are granted and change nothing. Refused: the file's own, 25 if
- * any of the numbers is no entry's, 27 if no entry would be left. The numbers
- * are only read. `entries` may be null if count is 0.
+ * it has, and the bytes behind it are blanks (0x20), in the second way too. Its
+ * rows stand in front of the `room` numbers at `rows`, whatever those held, and
+ * the numbers behind them stay. No entries at all are granted and change nothing
+ * of the file.
+ *
+ * Refused: the file's own, 25 if any of the numbers is no entry's, 27 if no
+ * entry would be left, 23 if there is no room for the rows of the batches that
+ * are left. The numbers at `entries` are only read; they may be null if count
+ * is 0.
  *
  * It keeps a byte for each entry that a file can have on the stack, a million in
  * all: a thread that calls it needs more stack than that.
  */
 uint64_t ach_take_out(uint64_t way, uint8_t *file, size_t n,
-                      const uint64_t *entries, size_t count, uint64_t *length);
+                      const uint64_t *entries, size_t count, uint64_t *rows,
+                      size_t room, uint64_t *length);
+
+/* Where the numbers of ach_runs_out's answer stand. */
+#define ACH_ROWS_UP_TO    0 /* how many rows come up to the one found and with
+                               it, or all of them */
+#define ACH_ROW_RECORD    1 /* its record number; 0 if no row is found */
+#define ACH_ROW_CREDIT    2 /* its credits so far; 0 if no row is found */
+#define ACH_ANSWER_LENGTH 3
+
+/*
+ * Finds the first of the rows in the n numbers at `rows` whose credits so far
+ * are more than `limit`, in cents. Answers 1 if there is one and 0 if there is
+ * none, and fills `answer` either way. Of a file's own rows, and no more than
+ * those, it is the first batch at whose end the credits exceed the limit.
+ *
+ * Any numbers may be lent, n of them, and not n rows: a lone number at the end
+ * is no row. Nothing is refused. `rows` may be null if n is 0.
+ */
+uint64_t ach_runs_out(const uint64_t *rows, size_t n, uint64_t limit,
+                      uint64_t answer[ACH_ANSWER_LENGTH]);
 
 /*
  * Tells where the addendum of an entry stands: `length` (80) bytes from

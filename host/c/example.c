@@ -1,7 +1,8 @@
 /*
- * Checks a file without line ends and one with CR LF behind every record,
- * alters one amount and takes one entry out in each, makes a table of a client's
- * list and a list of the table, and prints what the library answers.
+ * Checks a file without line ends and one with CR LF behind every record, asks
+ * where a limit runs out, alters one amount and takes one entry out in each,
+ * makes a table of a client's list and a list of the table, and prints what the
+ * library answers.
  *
  *     cc -Iinclude host/c/example.c target/staticlib/libach_c.a -o example
  *     ./example samples/whole.ach samples/whole-lined.ach
@@ -16,6 +17,9 @@
 /* Enough for both ways, and one byte more, so that a longer file is noticed. */
 static uint8_t file[ACH_LONGEST_LINED + 1];
 
+/* The rows of the file. */
+static uint64_t rows[ACH_MOST_ROOM];
+
 static void print_refusal(const char *what, uint64_t answer)
 {
     printf("%s: refused, number %u, record %" PRIu64 ", field %u\n", what,
@@ -23,20 +27,20 @@ static void print_refusal(const char *what, uint64_t answer)
 }
 
 /* Of the rows by code, those with entries. */
-static void print_rows(const uint64_t *rows)
+static void print_codes(const uint64_t *by_code)
 {
     static const unsigned codes[] = {22, 23, 24, 27, 28, 29,
                                      32, 33, 34, 37, 38, 39};
     for (size_t row = 0; row < sizeof codes / sizeof codes[0]; row++)
-        if (rows[2 * row] != 0)
+        if (by_code[2 * row] != 0)
             printf("  code %u: %" PRIu64 " entries, %" PRIu64 " cents\n",
-                   codes[row], rows[2 * row], rows[2 * row + 1]);
+                   codes[row], by_code[2 * row], by_code[2 * row + 1]);
 }
 
 static void print_check(uint64_t way, size_t n)
 {
     uint64_t held[ACH_ACCEPTANCE_LENGTH];
-    uint64_t answer = ach_check(way, file, n, held);
+    uint64_t answer = ach_check(way, file, n, held, rows, ACH_MOST_ROOM);
     if (answer != 0) {
         print_refusal("check", answer);
         return;
@@ -45,14 +49,29 @@ static void print_check(uint64_t way, size_t n)
            " addenda, debit %" PRIu64 ", credit %" PRIu64 " cents\n",
            held[ACH_BATCHES], held[ACH_ENTRIES], held[ACH_ADDENDA],
            held[ACH_DEBIT], held[ACH_CREDIT]);
-    print_rows(held + ACH_BY_CODE);
+    print_codes(held + ACH_BY_CODE);
+}
+
+/* Of the rows of a file that was checked, two numbers for each batch. */
+static void print_limit(size_t batches, uint64_t limit)
+{
+    uint64_t found[ACH_ANSWER_LENGTH];
+    if (ach_runs_out(rows, 2 * batches, limit, found) == 0)
+        printf("runs out: never, %" PRIu64 " cents for %" PRIu64 " batches\n",
+               limit, found[ACH_ROWS_UP_TO]);
+    else
+        printf("runs out: %" PRIu64 " cents with batch %" PRIu64
+               ", record %" PRIu64 ", %" PRIu64 " cents so far\n", limit,
+               found[ACH_ROWS_UP_TO], found[ACH_ROW_RECORD],
+               found[ACH_ROW_CREDIT]);
 }
 
 static void print_alteration(uint64_t way, size_t n, uint64_t entry,
                              uint64_t amount)
 {
     int64_t difference;
-    uint64_t answer = ach_alter(way, file, n, entry, amount, &difference);
+    uint64_t answer = ach_alter(way, file, n, rows, ACH_MOST_ROOM, entry,
+                                amount, &difference);
     if (answer != 0) {
         print_refusal("alter", answer);
         return;
@@ -66,7 +85,8 @@ static size_t print_taking_out(uint64_t way, size_t n, const uint64_t *entries,
                                size_t count)
 {
     uint64_t length;
-    uint64_t answer = ach_take_out(way, file, n, entries, count, &length);
+    uint64_t answer = ach_take_out(way, file, n, entries, count, rows,
+                                   ACH_MOST_ROOM, &length);
     if (answer != 0) {
         print_refusal("take out", answer);
         return n;
@@ -111,6 +131,12 @@ static void print_all(uint64_t way, size_t n)
     static const uint64_t second[] = {2, 2}, both[] = {2, 1};
 
     print_check(way, n);
+    print_limit(1, 12549);
+    print_limit(1, 12550);
+    print_alteration(way, n, 1, 200000);
+    print_limit(1, 12550);
+    /* Rows that are not the file's are refused; the check gives them again. */
+    rows[1]++;
     print_alteration(way, n, 1, 200000);
     print_check(way, n);
     print_alteration(way, n, 1, 0);
@@ -121,6 +147,7 @@ static void print_all(uint64_t way, size_t n)
         print_check(way, n - 1);
     print_taking_out(way, n, both, 2);
     n = print_taking_out(way, n, second, 2);
+    print_limit(1, 200000);
     print_check(way, n);
 }
 

@@ -5,7 +5,7 @@ use native.Mathlib.Omega.{arith}
 use mathlib.Core.Path.{_≡_, refl}
 use mathlib.Core.Bool.{Bool, true, false, _&&_}
 use mathlib.Core.List.{List, map}
-use borrow.Author.Tests.{leb-true, le-leb, lt-leb, eqb-true, eq-eqb, ne-eqb}
+use borrow.Author.Tests.{leb-true, eqb-true}
 use lib.Dec.{leb, eqb}
 use lib.ListN.{length, drop, length-take}
 use Rattle.text.specs.Same.{sameBytes}
@@ -23,10 +23,6 @@ use Rattle.records.specs.declared.Verdict.{Verdict}
 use Rattle.tally.specs.Tally.{nextHeader, tally, start}
 use Rattle.records.specs.Run.{fieldsFrom, lineOf, closing, pieceOf, runFrom, finished, refused, lengthFits, checkedOf}
 use Rattle.records.proofs.Ways.{rawFrom, rawAt, columnsAt, columns-of, raw-next, raw-end, raw-whole}
-
-and-false : (b : Bool) → b && false ≡ false
-and-false true = refl
-and-false false = refl
 
 -- the state that the walk keeps in parts
 abbrev pub state : Place → Sums → List ℕ → List ℕ → State
@@ -67,16 +63,6 @@ module _ (way : Way) (f : List ℕ) (st : State) (at : ℕ) (line : Line) (room 
 pub run-end : (way : Way) (f : List ℕ) (st : State) (at : ℕ) → length f ≤ at → left way f st at ≡ finished st
 unfolding runFrom
 run-end way f st at h = rw (raw-end way f at h) refl
-
--- the length's rule, test by test
-pub short : (way : Way) (n : ℕ) → n < 1 → false ≡ lengthFits way n
-short way n h = rw (lt-leb 1 n h) refl
-
-pub uneven : (way : Way) (n : ℕ) → (n % recordBytes way ≡ 0 → ⊥) → false ≡ lengthFits way n
-uneven way n h = rw (ne-eqb (n % recordBytes way) 0 h, and-false (leb 1 n)) refl
-
-pub even : (way : Way) (n : ℕ) → 1 ≤ n → n % recordBytes way ≡ 0 → leb n (recordBytes way * 1000000) ≡ lengthFits way n
-even way n a b = rw (le-leb 1 n a, eq-eqb (n % recordBytes way) 0 b) refl
 
 -- a wrong length is the answer, and where it is right there are these numbers, and all is left to do
 pub unfit : (way : Way) (f : List ℕ) → lengthFits way (length f) ≡ false → refused Fault.Length 0 0 ≡ checkedOf way f

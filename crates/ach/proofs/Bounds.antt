@@ -1,4 +1,4 @@
--- How large the numbers of an answer can be: the number at most 25, the field at most 13, the record at most 1,000,001.
+-- How large the numbers of an answer can be: the number at most 34, the field at most 13, the record at most 1,000,001.
 -- Assumes nothing.
 use mathlib.Core.Path.{_≡_, refl, _∙_}
 use mathlib.Core.Bool.{Bool, true, false, _&&_}
@@ -19,7 +19,7 @@ use Rattle.layout.specs.declared.Refusal.{Refusal}
 use Rattle.layout.specs.declared.Row.{Row}
 use Rattle.layout.specs.declared.Line.{Line}
 use Rattle.layout.specs.Fields.{rowsOf, firstField}
-use Rattle.layout.specs.Paper.{numberOf}
+use Rattle.layout.specs.Paper.{numberOf, refusal}
 use Rattle.kinds.specs.declared.Mark.{Mark}
 use Rattle.codes.specs.declared.Code.{Code}
 use Rattle.codes.specs.Codes.{codeOf, carries}
@@ -34,9 +34,9 @@ use Rattle.records.proofs.Ways.{rows-few}
 use Rattle.layout.specs.Ways.{recordBytes}
 use Rattle.view.specs.View.{View, entriesOf, sumOver, debitOf, creditOf, amountOf, codeIn, fileOf, viewOf}
 use Rattle.view.specs.Table.{shaped, formed, tableOf}
-use Rattle.view.specs.Outcome.{Spot, refusal, demand, andThen, room, made, readOf, writeOf, entryAt, exists, spotOf, entryNumber, batchControlNumber, fileControlNumber, amend, within, limits, alterAnswer, altered, alterOf, addendumAnswer}
-use Rattle.view.proofs.Bridge.{accepted-view}
-use Rattle.view.proofs.BridgeWalk.{carry}
+use Rattle.view.specs.Outcome.{Spot, demand, andThen, room, made, readOf, writeOf, entryAt, exists, spotOf, entryNumber, batchControlNumber, fileControlNumber, within, limits, alterAnswer, altered, addendumAnswer}
+use Rattle.bridge.proofs.Bridge.{accepted-view}
+use Rattle.bridge.proofs.BridgeWalk.{carry}
 use Rattle.finding.proofs.Places.{in-order}
 use Rattle.layout.specs.declared.Way.{Way}
 use Rattle.layout.specs.declared.Checked.{Checked}
@@ -44,43 +44,13 @@ use Rattle.cells.specs.Grammar.{linesIn, sixFields, sixTexts}
 use Rattle.comma.specs.Entries.{fieldRight, fieldFault, try, textsVerdict, lineVerdict}
 use Rattle.comma.specs.Import.{lineAnswer, linesAnswer, importTable, rowsFit, importAnswer, importOf}
 use Rattle.comma.proofs.EntryLaws.{texts-many, lines-count}
+use Rattle.funds.specs.Funds.{enoughRows, trueList}
+use Rattle.funds.specs.Outcome.{checkAnswer, given, checkOf}
+use Rattle.relisting.specs.Listed.{alterListedAnswer, alterListedOf}
 use Rattle.without.specs.Without.{without, allExist, takeOutAnswer, shortened, takeOutOf}
 use Rattle.writing.specs.Judge.{writable}
-use Rattle.exporting.specs.Export.{exported, exportOf}
-
--- the paper's numbers are 1 to 32
-pub number-range : (f : Fault) → (1 ≤ numberOf f) × (numberOf f ≤ 32)
-number-range Fault.Length = (lit≤ tt, lit≤ tt)
-number-range Fault.Ended = (lit≤ tt, lit≤ tt)
-number-range Fault.Misplaced = (lit≤ tt, lit≤ tt)
-number-range Fault.Past = (lit≤ tt, lit≤ tt)
-number-range Fault.Fixed = (lit≤ tt, lit≤ tt)
-number-range Fault.Digits = (lit≤ tt, lit≤ tt)
-number-range Fault.Text = (lit≤ tt, lit≤ tt)
-number-range Fault.Blank = (lit≤ tt, lit≤ tt)
-number-range Fault.Leading = (lit≤ tt, lit≤ tt)
-number-range Fault.Date = (lit≤ tt, lit≤ tt)
-number-range Fault.Value = (lit≤ tt, lit≤ tt)
-number-range Fault.CheckDigit = (lit≤ tt, lit≤ tt)
-number-range Fault.Bank = (lit≤ tt, lit≤ tt)
-number-range Fault.Amount = (lit≤ tt, lit≤ tt)
-number-range Fault.Side = (lit≤ tt, lit≤ tt)
-number-range Fault.Trace = (lit≤ tt, lit≤ tt)
-number-range Fault.BatchNumber = (lit≤ tt, lit≤ tt)
-number-range Fault.Count = (lit≤ tt, lit≤ tt)
-number-range Fault.Hash = (lit≤ tt, lit≤ tt)
-number-range Fault.Limit = (lit≤ tt, lit≤ tt)
-number-range Fault.Total = (lit≤ tt, lit≤ tt)
-number-range Fault.Batch = (lit≤ tt, lit≤ tt)
-number-range Fault.Room = (lit≤ tt, lit≤ tt)
-number-range Fault.Shape = (lit≤ tt, lit≤ tt)
-number-range Fault.NoEntry = (lit≤ tt, lit≤ tt)
-number-range Fault.LineEnd = (lit≤ tt, lit≤ tt)
-number-range Fault.NoneLeft = (lit≤ tt, lit≤ tt)
-number-range Fault.Remittance = (lit≤ tt, lit≤ tt)
-number-range Fault.Comma = (lit≤ tt, lit≤ tt)
-number-range Fault.Cents = (lit≤ tt, lit≤ tt)
-number-range Fault.Long = (lit≤ tt, lit≤ tt)
+use Rattle.exporting.specs.Export.{exportOf}
+use Rattle.lining.specs.CommaLines.{exported}
 
 -- what is refused has a field and a record within these bounds
 pub record Bounded (x : Refusal) : Type 0 where
@@ -156,8 +126,8 @@ run-low st (p ∷ ps) l =
     go false Verdict.Passed f later = record { field = lit≤ tt; number = omega (arith, l) }
     go false (Verdict.Failed fault k) f later = record { field = omega (arith, f); number = omega (arith, l) }
 
-pub check-low : (way : Way) (f : List ℕ) → Low (checkedOf way f .answer)
-check-low way f = go (lengthFits way (length f)) refl
+file-low : (way : Way) (f : List ℕ) → Low (checkedOf way f .answer)
+file-low way f = go (lengthFits way (length f)) refl
   where
     go : (b : Bool) → lengthFits way (length f) ≡ b → Low (pick b (runFrom start (map (pieceOf way) (rawRecords way f))) (refused Fault.Length 0 0) .answer)
     go false h = record { field = lit≤ tt; number = lit≤ tt }
@@ -196,21 +166,32 @@ low-shortened (Answer.Refused x) result f l = l
 low-room : (result buffer : List ℕ) → Low (room result buffer)
 low-room result buffer = low-demand (leb (length result) (length buffer)) (refusal Fault.Room 0 0) Answer.Granted (low-whole Fault.Room) λ e. tt
 
+low-given : (x : Answer) (c : Checked) → Low x → Low (c .answer) → Low (given x c .answer)
+low-given Answer.Granted c l m = m
+low-given (Answer.Refused r) c l m = record { field = l .field; number = l .number }
+
+pub check-low : (way : Way) (f held : List ℕ) → Low (checkOf way f held .gives .answer)
+check-low way f held =
+    let last = demand (enoughRows (viewOf way f) (length held)) (refusal Fault.Room 0 0) Answer.Granted in
+    low-given (checkAnswer way f held) (checkedOf way f)
+    (low-then (checkedOf way f .answer) last (file-low way f) λ e. low-demand (enoughRows (viewOf way f) (length held)) (refusal Fault.Room 0 0) Answer.Granted (low-whole Fault.Room) λ x. tt)
+    (file-low way f)
+
 pub read-low : (way : Way) (f table : List ℕ) → Low (readOf way f table .gives .answer)
 read-low way f table =
     low-made (andThen (checkedOf way f .answer) (room (tableOf way f) table)) (tableOf way f) table
-    (low-then (checkedOf way f .answer) (room (tableOf way f) table) (check-low way f) λ e. low-room (tableOf way f) table)
+    (low-then (checkedOf way f .answer) (room (tableOf way f) table) (file-low way f) λ e. low-room (tableOf way f) table)
 
 pub write-low : (way : Way) (t file : List ℕ) → Low (writeOf way t file .gives .answer)
 write-low way t file =
     let tried = andThen (checkedOf way (formed way t) .answer) (room (formed way t) file) in
     low-made (demand (shaped t) (refusal Fault.Shape 0 0) tried) (formed way t) file
     (low-demand (shaped t) (refusal Fault.Shape 0 0) tried (low-whole Fault.Shape)
-    λ h. low-then (checkedOf way (formed way t) .answer) (room (formed way t) file) (check-low way (formed way t)) λ e. low-room (formed way t) file)
+    λ h. low-then (checkedOf way (formed way t) .answer) (room (formed way t) file) (file-low way (formed way t)) λ e. low-room (formed way t) file)
 
 pub addendum-low : (way : Way) (f : List ℕ) (k : ℕ) → Low (addendumAnswer way f k)
 addendum-low way f k =
-    low-then (checkedOf way f .answer) _ (check-low way f)
+    low-then (checkedOf way f .answer) _ (file-low way f)
     λ e. low-demand (exists (viewOf way f) k) (refusal Fault.NoEntry 0 0) Answer.Granted (low-whole Fault.NoEntry) λ h. tt
 
 two-low : (t u : Bool) (m n j k : ℕ) → m ≤ 1000001 → n ≤ 1000001 → j ≤ 13 → k ≤ 13 → Low (demand t (refusal Fault.Limit m j) (demand u (refusal Fault.Limit n k) Answer.Granted))
@@ -225,31 +206,40 @@ limits-low v s (Code.Credit u) old new p q =
 limits-low v s (Code.Debit u) old new p q =
     two-low (within (sumOver debitOf (s .batch .entries)) old new) (within (sumOver debitOf (entriesOf v)) old new) (batchControlNumber s) (fileControlNumber v) 5 6 p q (lit≤ tt) (lit≤ tt)
 
-pub alter-low : (way : Way) (f : List ℕ) (k a : ℕ) → Low (alterOf way f k a .gives .answer)
-alter-low way f k a =
+alter-answer-low : (way : Way) (f : List ℕ) (k a : ℕ) → Low (alterAnswer way f k a)
+alter-answer-low way f k a =
     let v = viewOf way f in
     let c = codeOf (codeIn (entryAt v k)) in
     let amount = refusal Fault.Amount (entryNumber (spotOf v k)) 6 in
     let last = limits v (spotOf v k) c (amountOf (entryAt v k)) a in
-    low-altered (alterAnswer way f k a) _ (fileOf way (amend v k a)) f
-    (low-then (checkedOf way f .answer) (demand (exists v k) (refusal Fault.NoEntry 0 0) (demand (carries c a) amount last)) (check-low way f)
+    low-then (checkedOf way f .answer) (demand (exists v k) (refusal Fault.NoEntry 0 0) (demand (carries c a) amount last)) (file-low way f)
     λ g. low-demand (exists v k) (refusal Fault.NoEntry 0 0) (demand (carries c a) amount last) (low-whole Fault.NoEntry)
     λ x.
     let b = and-both (leb 1 k) (leb k (length (entriesOf v))) x in
     let order = in-order v k (leb-true 1 k (b .0)) (leb-true k (length (entriesOf v)) (b .1)) in
     let fits = accepted-view way f g .keeps .fits in
     low-demand (carries c a) amount last (record { field = lit≤ tt; number = omega (arith, order .0, order .1, order .2, fits) })
-    λ y. limits-low v (spotOf v k) c (amountOf (entryAt v k)) a (omega (arith, order .1, order .2, fits)) (omega (arith, order .2, fits)))
+    λ y. limits-low v (spotOf v k) c (amountOf (entryAt v k)) a (omega (arith, order .1, order .2, fits)) (omega (arith, order .2, fits))
 
-pub recall-low : (way : Way) (f ns : List ℕ) → Low (takeOutOf way f ns .gives .answer)
-recall-low way f ns =
+pub alter-low : (way : Way) (f held : List ℕ) (k a : ℕ) → Low (alterListedOf way f held k a .gives .answer)
+alter-low way f held k a =
+    low-altered (alterListedAnswer way f held k a) _ _ f
+    (low-then (checkedOf way f .answer) (demand (trueList way f held) (refusal Fault.Rows 0 0) (alterAnswer way f k a)) (file-low way f)
+    λ g. low-demand (trueList way f held) (refusal Fault.Rows 0 0) (alterAnswer way f k a) (low-whole Fault.Rows)
+    λ t. alter-answer-low way f k a)
+
+pub recall-low : (way : Way) (f ns held : List ℕ) → Low (takeOutOf way f ns held .gives .answer)
+recall-low way f ns held =
     let v = viewOf way f in
     let left = leb 1 (length (entriesOf (without v ns))) in
     let none = refusal Fault.NoneLeft 0 0 in
-    low-shortened (takeOutAnswer way f ns) (fileOf way (without v ns)) f
-    (low-then (checkedOf way f .answer) (demand (allExist v ns) (refusal Fault.NoEntry 0 0) (demand left none Answer.Granted)) (check-low way f)
-    λ g. low-demand (allExist v ns) (refusal Fault.NoEntry 0 0) (demand left none Answer.Granted) (low-whole Fault.NoEntry)
-    λ x. low-demand left none Answer.Granted (low-whole Fault.NoneLeft) λ y. tt)
+    let enough = enoughRows (without v ns) (length held) in
+    let last = demand enough (refusal Fault.Room 0 0) Answer.Granted in
+    low-shortened (takeOutAnswer way f ns (length held)) (fileOf way (without v ns)) f
+    (low-then (checkedOf way f .answer) (demand (allExist v ns) (refusal Fault.NoEntry 0 0) (demand left none last)) (file-low way f)
+    λ g. low-demand (allExist v ns) (refusal Fault.NoEntry 0 0) (demand left none last) (low-whole Fault.NoEntry)
+    λ x. low-demand left none last (low-whole Fault.NoneLeft)
+    λ y. low-demand enough (refusal Fault.Room 0 0) Answer.Granted (low-whole Fault.Room) λ z. tt)
 
 -- ---- client lists
 
@@ -257,7 +247,7 @@ pub export-low : (t lines : List ℕ) → Low (exportOf t lines .gives .answer)
 export-low t lines =
     low-made (andThen (writable t) (room (exported t) lines)) (exported t) lines
     (low-then (writable t) (room (exported t) lines)
-    (low-demand (shaped t) (refusal Fault.Shape 0 0) (checkedOf Way.Plain (formed Way.Plain t) .answer) (low-whole Fault.Shape) λ h. check-low Way.Plain (formed Way.Plain t))
+    (low-demand (shaped t) (refusal Fault.Shape 0 0) (checkedOf Way.Plain (formed Way.Plain t) .answer) (low-whole Fault.Shape) λ h. file-low Way.Plain (formed Way.Plain t))
     λ e. low-room (exported t) lines)
 
 -- a line's number stands for the record, and may be larger than that of any record: these bounds are those of a code's bits
@@ -309,5 +299,5 @@ import-coded filerow batchrow lines table h =
     coded-made (andThen (importAnswer filerow batchrow lines) (room t table)) t table
     (coded-then (importAnswer filerow batchrow lines) (room t table)
     (coded-then (linesAnswer 1 (linesIn lines)) _ (lines-coded 1 (linesIn lines) (omega (arith, lines-count lines)))
-    (low-coded (demand (rowsFit filerow batchrow lines) (refusal Fault.Shape 0 0) checked) (low-demand (rowsFit filerow batchrow lines) (refusal Fault.Shape 0 0) checked (low-whole Fault.Shape) λ e. check-low Way.Plain (formed Way.Plain t))))
+    (low-coded (demand (rowsFit filerow batchrow lines) (refusal Fault.Shape 0 0) checked) (low-demand (rowsFit filerow batchrow lines) (refusal Fault.Shape 0 0) checked (low-whole Fault.Shape) λ e. file-low Way.Plain (formed Way.Plain t))))
     (low-coded (room t table) (low-room t table)))

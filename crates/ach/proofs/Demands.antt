@@ -1,6 +1,6 @@
 -- The three demands, sentence by sentence, over the contracts alone: whatever outcome a contract permits has these properties.
 -- Assumes nothing.
-use mathlib.Core.Path.{_≡_, refl, sym, ap, _∙_}
+use mathlib.Core.Path.{_≡_, refl, sym, ap, _∙_, subst}
 use mathlib.Core.Logic.{_↔_, _⊎_, inl, inr}
 use mathlib.Core.Bool.{true, false}
 use mathlib.Core.List.{List, [], _∷_, _++_, map}
@@ -8,7 +8,7 @@ use Prim.Native.Nat.{ℕ, _≤_}
 use lib.ListN.{length, getD, take, drop}
 use lib.Seq.{take-append-seam}
 use lib.IntN.{pos, _-ℤ_}
-use Rattle.text.specs.Decimal.{pick, render}
+use Rattle.text.specs.Decimal.{render}
 use Rattle.text.specs.Rows.{joined}
 use Rattle.layout.specs.declared.Fault.{Fault}
 use Rattle.layout.specs.declared.Answer.{Answer}
@@ -18,23 +18,29 @@ use Rattle.layout.specs.declared.Made.{Made}
 use Rattle.layout.specs.declared.Altered.{Altered}
 use Rattle.layout.specs.Fields.{part, entry, batchControl, fileControl}
 use Rattle.layout.specs.Paper.{paperOf}
-use Rattle.finding.specs.declared.AskedSpan.{AskedSpan}
+use Rattle.asking.specs.declared.AskedSpan.{AskedSpan}
 use Rattle.tally.specs.Tally.{start}
 use Rattle.records.specs.Run.{lengthFits, rawRecords, columnsIn, pieceOf, checkedOf}
 use Rattle.view.specs.View.{View, sumOver, debitOf, creditOf, amountOf, entriesOf, fileControlRecord, recordsOf, viewOf}
 use Rattle.view.specs.Table.{shaped, formed, tableOf, viewOfTable}
 use Rattle.view.specs.Outcome.{made, readOf, writeOf, alterOf, addendumAnswer, addendumOf, entryAt, spotOf, entryNumber, batchControlNumber, fileControlNumber, exists, alteredTable}
 use Rattle.view.specs.Sized.{All}
-use Rattle.view.specs.Runs.{Alterable, isGranted, tableRun, alterRun}
-use Rattle.view.proofs.Formed.{BatchControlFields, FileControlFields, file-control-fields}
-use Rattle.view.proofs.AmendFile.{fieldAt, Outside}
-use Rattle.view.proofs.Bridge.{FileOf, accepted-exactly, only-view}
-use Rattle.view.proofs.Own.{Told, own-entries, own-controls, own-records, own-table}
-use Rattle.view.proofs.RoundTrips.{read-done, write-done, read-write, write-read}
-use Rattle.view.proofs.Alter.{alter-exactly, alter-refused, alter-leaves, alter-accepted, alter-table, alter-length, alter-bytes, alter-difference, alter-same, may-put, alter-step, run-table, run-file, run-refused}
-use Rattle.finding.proofs.Addenda.{granted-there, part-refused, handed}
-use Rattle.ach.specs.Contracts.{Checks, Reads, Writes, Alters, HandsOut, Explains, Spans, Run}
-use Rattle.ach.proofs.Bounds.{number-range}
+use Rattle.view.specs.Runs.{Alterable}
+use Rattle.funds.specs.Funds.{rowsOf, trueList}
+use Rattle.funds.specs.Outcome.{checkOf}
+use Rattle.relisting.specs.Listed.{alterListedOf}
+use Rattle.funds.proofs.CheckLaws.{check-own, check-leaves, check-exactly, check-gives}
+use Rattle.funds.proofs.FrontLaws.{begins-exactly}
+use Rattle.relisting.proofs.Listing.{listed-exactly, as-asked, listed-refused}
+use Rattle.bridge.proofs.Formed.{BatchControlFields, FileControlFields, file-control-fields}
+use Rattle.bridge.proofs.AmendFile.{fieldAt, Outside}
+use Rattle.bridge.proofs.Bridge.{FileOf, accepted-exactly, only-view}
+use Rattle.bridge.proofs.Own.{Told, own-entries, own-controls, own-records, own-table}
+use Rattle.bridge.proofs.RoundTrips.{read-done, write-done, read-write, write-read}
+use Rattle.bridge.proofs.Alter.{alter-exactly, alter-leaves, alter-accepted, alter-table, alter-length, alter-bytes, alter-difference, alter-same}
+use Rattle.asking.proofs.Addenda.{granted-there, part-refused, handed}
+use Rattle.ach.specs.Contracts.{Checks, Reads, Writes, Alters, HandsOut, Explains, Spans}
+use Rattle.told.proofs.Laws.{number-range}
 use Rattle.ach.proofs.First.{First, refused-first}
 use Rattle.ach.proofs.Grants.{read-leaves, write-leaves, read-exactly, write-exactly, write-file, done}
 use Rattle.layout.specs.declared.Way.{Way}
@@ -51,8 +57,8 @@ module _ (way : Way) where
   -- ---- 1. Every public entry point takes all input, well formed or not, ends, and does its own checking.
 
   -- for every input an outcome is permitted: no contract asks anything of its caller
-  pub check-ends : (f : List ℕ) → (r : Checked) × Checks way f r
-  check-ends f = (checkedOf way f, refl)
+  pub check-ends : (f held : List ℕ) → (r : Checked) × (left : List ℕ) × Checks way f held r left
+  check-ends f held = (checkOf way f held .gives, checkOf way f held .leaves, (refl, refl))
 
   pub read-ends : (f held : List ℕ) → (r : Made) × (left : List ℕ) × Reads way f held r left
   read-ends f held = (readOf way f held .gives, readOf way f held .leaves, (refl, refl))
@@ -60,8 +66,10 @@ module _ (way : Way) where
   pub write-ends : (t held : List ℕ) → (r : Made) × (left : List ℕ) × Writes way t held r left
   write-ends t held = (writeOf way t held .gives, writeOf way t held .leaves, (refl, refl))
 
-  pub alter-ends : (f : List ℕ) (k a : ℕ) → (r : Altered) × (left : List ℕ) × Alters way f k a r left
-  alter-ends f k a = (alterOf way f k a .gives, alterOf way f k a .leaves, (refl, refl))
+  pub alter-ends : (f held : List ℕ) (k a : ℕ) → (r : Altered) × (left : List ℕ) × (rows : List ℕ) × Alters way f held k a r left rows
+  alter-ends f held k a =
+      let o = alterListedOf way f held k a in
+      (o .gives, o .leaves, o .rows, (refl, refl, refl))
 
   pub addendum-ends : (f : List ℕ) (k : ℕ) → ((bytes : List ℕ) × HandsOut way f k bytes) × ((e : Answer) × Explains way f k e) × ((r : AskedSpan) × Spans way f k r)
   addendum-ends f k =
@@ -73,8 +81,8 @@ module _ (way : Way) where
   same : {A : Type 0} {x y z : A} → x ≡ z → y ≡ z → x ≡ y
   same p q = p ∙ sym q
 
-  pub check-one : (f : List ℕ) (r s : Checked) → Checks way f r → Checks way f s → r ≡ s
-  check-one f r s p q = same p q
+  pub check-one : (f held left kept : List ℕ) (r s : Checked) → Checks way f held r left → Checks way f held s kept → (r ≡ s) × (left ≡ kept)
+  check-one f held left kept r s p q = (same (p .0) (q .0), same (p .1) (q .1))
 
   pub read-one : (f held left kept : List ℕ) (r s : Made) → Reads way f held r left → Reads way f held s kept → (r ≡ s) × (left ≡ kept)
   read-one f held left kept r s p q = (same (p .0) (q .0), same (p .1) (q .1))
@@ -82,8 +90,9 @@ module _ (way : Way) where
   pub write-one : (t held left kept : List ℕ) (r s : Made) → Writes way t held r left → Writes way t held s kept → (r ≡ s) × (left ≡ kept)
   write-one t held left kept r s p q = (same (p .0) (q .0), same (p .1) (q .1))
 
-  pub alter-one : (f left kept : List ℕ) (k a : ℕ) (r s : Altered) → Alters way f k a r left → Alters way f k a s kept → (r ≡ s) × (left ≡ kept)
-  alter-one f left kept k a r s p q = (same (p .0) (q .0), same (p .1) (q .1))
+  pub alter-one : (f held left kept rows list : List ℕ) (k a : ℕ) (r s : Altered) → Alters way f held k a r left rows → Alters way f held k a s kept list
+      → (r ≡ s) × (left ≡ kept) × (rows ≡ list)
+  alter-one f held left kept rows list k a r s p q = (same (p .0) (q .0), same (p .1) (q .1), same (p .2) (q .2))
 
   pub addendum-one : (f x y : List ℕ) (k : ℕ) → HandsOut way f k x → HandsOut way f k y → x ≡ y
   addendum-one f x y k p q = same p q
@@ -99,26 +108,23 @@ module _ (way : Way) where
 
   -- It grants, or names the first refusal by number, record and field.
 
-  -- the answer is a grant, numbered 0, or a refusal, numbered 1 to 32
-  pub grants-or-names : (a : Answer) → ((a ≡ Answer.Granted) × (paperOf a .number ≡ 0)) ⊎ ((x : Refusal) × (a ≡ Answer.Refused x) × (1 ≤ paperOf a .number) × (paperOf a .number ≤ 32))
+  -- the answer is a grant, numbered 0, or a refusal, numbered 1 to 34
+  pub grants-or-names : (a : Answer) → ((a ≡ Answer.Granted) × (paperOf a .number ≡ 0)) ⊎ ((x : Refusal) × (a ≡ Answer.Refused x) × (1 ≤ paperOf a .number) × (paperOf a .number ≤ 34))
   grants-or-names Answer.Granted = inl (refl, refl)
   grants-or-names (Answer.Refused x) = inr (x, refl, number-range (x .fault) .0, number-range (x .fault) .1)
 
-  -- check's is the one where the run over records and fields in order stops: all records before passed, and all fields before were right
-  pub check-first : (f : List ℕ) (r : Checked) (x : Refusal) → Checks way f r → r .answer ≡ Answer.Refused x
-      → ((lengthFits way (length f) ≡ false) × (x .fault ≡ Fault.Length) × (x .record .0 ≡ 0) × (x .field ≡ 0)) ⊎ First start (map (pieceOf way) (rawRecords way f)) x
-  check-first f r x p e = refused-first way f x (rw (← p) e)
+  -- the file's own is the one where the run over records and fields in order stops: all records before passed, and all fields before were right
+  pub check-first : (f held left : List ℕ) (r : Checked) (x : Refusal) → Checks way f held r left → checkedOf way f .answer ≡ Answer.Refused x
+      → (paperOf (r .answer) ≡ paperOf (Answer.Refused x))
+      × (((lengthFits way (length f) ≡ false) × (x .fault ≡ Fault.Length) × (x .record .0 ≡ 0) × (x .field ≡ 0)) ⊎ First start (map (pieceOf way) (rawRecords way f)) x)
+  check-first f held left r x p e = (ap (λ (c : Checked). paperOf (c .answer)) (p .0 ∙ check-own way f held x e .0) ∙ ap paperOf e, refused-first way f x e)
 
-  pub check-names : (f : List ℕ) (r : Checked) → Checks way f r → paperOf (r .answer) ≡ paperOf (checkedOf way f .answer)
-  check-names f r p = ap (λ c. paperOf (c .answer)) p
-
-  -- what check refuses is refused by reading, altering and asking for an addendum, with the same number, record and field
-  pub file-refused : (f held left kept : List ℕ) (k a : ℕ) (c : Checked) (r : Made) (s : Altered) (e : Answer) (x : Refusal)
-      → Checks way f c → c .answer ≡ Answer.Refused x → Reads way f held r left → Alters way f k a s kept → Explains way f k e
-      → (r .answer ≡ Answer.Refused x) × (s .answer ≡ Answer.Refused x) × (e ≡ Answer.Refused x)
-  file-refused f held left kept k a c r s e x p g q u w =
-      let h : checkedOf way f .answer ≡ Answer.Refused x = rw (← p) g in
-      (rw (q .0, h), rw (u .0, h), rw (w, h))
+  -- such a file is refused by checking, reading, altering and asking for an addendum, with the same number, record and field, whatever else is lent
+  pub file-refused : (f held left kept rows list table : List ℕ) (k a : ℕ) (c : Checked) (r : Made) (s : Altered) (e : Answer) (x : Refusal)
+      → checkedOf way f .answer ≡ Answer.Refused x → Checks way f rows c list → Reads way f table r left → Alters way f rows k a s kept held → Explains way f k e
+      → (c .answer ≡ Answer.Refused x) × (r .answer ≡ Answer.Refused x) × (s .answer ≡ Answer.Refused x) × (e ≡ Answer.Refused x)
+  file-refused f held left kept rows list table k a c r s e x h p q u w =
+      (ap (λ (m : Checked). m .answer) (p .0 ∙ check-own way f rows x h .0) ∙ h, rw (q .0, h), rw (u .0, h), rw (w, h))
 
   -- After a refusal the lent file and table hold exactly the bytes they held before.
   pub read-refused : (f held left : List ℕ) (r : Made) (x : Refusal) → Reads way f held r left → r .answer ≡ Answer.Refused x → left ≡ held
@@ -127,34 +133,44 @@ module _ (way : Way) where
   pub write-refused : (t held left : List ℕ) (r : Made) (x : Refusal) → Writes way t held r left → r .answer ≡ Answer.Refused x → left ≡ held
   write-refused t held left r x p e = p .1 ∙ write-leaves way t held x (rw (← p .0) e) .0
 
-  pub alteration-refused : (f left : List ℕ) (k a : ℕ) (r : Altered) (x : Refusal) → Alters way f k a r left → r .answer ≡ Answer.Refused x → left ≡ f
-  alteration-refused f left k a r x p e = p .1 ∙ alter-refused way f k a x (rw (← p .0) e) .0
+  pub check-refused : (f held left : List ℕ) (r : Checked) (x : Refusal) → Checks way f held r left → r .answer ≡ Answer.Refused x → left ≡ held
+  check-refused f held left r x p e = p .1 ∙ check-leaves way f held x (rw (← p .0) e) .1
+
+  pub alteration-refused : (f held left rows : List ℕ) (k a : ℕ) (r : Altered) (x : Refusal) → Alters way f held k a r left rows → r .answer ≡ Answer.Refused x
+      → (left ≡ f) × (rows ≡ held) × (r .difference ≡ pos 0)
+  alteration-refused f held left rows k a r x p e =
+      let o = listed-refused way f held k a x (rw (← p .0) e) in
+      (p .1 ∙ o .0, p .2 ∙ o .1, ap (λ (m : Altered). m .difference) (p .0) ∙ o .2)
 
   -- ---- 2. A file is accepted exactly if it keeps the rules for PPD and CCD, its counts, hashes and totals being those of its own entries.
 
-  module _ (f : List ℕ) (c : Checked) (p : Checks way f c) where
-    -- it is the file that a view makes which keeps the rules; there is one such view, and it is what the file says
-    pub exactly-accepted : (c .answer ≡ Answer.Granted) ↔ ((v : View) × FileOf way f v)
-    exactly-accepted = rw p (accepted-exactly way f)
+  -- it is the file that a view makes which keeps the rules; there is one such view, and it is what the file says. (Checking asks for room in the
+  -- lent list besides: `exactly-checked` in Money.)
+  pub exactly-accepted : (f : List ℕ) → (checkedOf way f .answer ≡ Answer.Granted) ↔ ((v : View) × FileOf way f v)
+  exactly-accepted f = accepted-exactly way f
 
-    pub one-view : (v : View) → FileOf way f v → v ≡ viewOf way f
-    one-view = only-view way f
+  pub one-view : (f : List ℕ) (v : View) → FileOf way f v → v ≡ viewOf way f
+  one-view f = only-view way f
 
-    -- its records are those of that view, one for one and in order, the controls among them
-    pub own-records-in-order : c .answer ≡ Answer.Granted → columnsIn way f ≡ recordsOf (viewOf way f)
-    own-records-in-order g = own-records way f (rw (← p) g)
+  module _ (f held left : List ℕ) (c : Checked) (p : Checks way f held c left) where
+    module _ (g : c .answer ≡ Answer.Granted) where
+      accepted : checkedOf way f .answer ≡ Answer.Granted
+      accepted = check-exactly way f held .0 (rw (← p .0) g) .0
 
-    -- and the numbers given, and every field of the controls, are counts and sums over its own entries
-    pub own-numbers : c .answer ≡ Answer.Granted → Told c (viewOf way f) × All BatchControlFields (viewOf way f .batches) × FileControlFields (viewOf way f)
-    own-numbers g =
-        let e : checkedOf way f .answer ≡ Answer.Granted = rw (← p) g in
-        let o = own-controls way f e in
-        (rw p (own-entries way f e), o .0, o .1)
+      -- its records are those of that view, one for one and in order, the controls among them
+      pub own-records-in-order : columnsIn way f ≡ recordsOf (viewOf way f)
+      own-records-in-order = own-records way f accepted
+
+      -- and the numbers given, and every field of the controls, are counts and sums over its own entries
+      pub own-numbers : Told c (viewOf way f) × All BatchControlFields (viewOf way f .batches) × FileControlFields (viewOf way f)
+      own-numbers =
+          let o = own-controls way f accepted in
+          (subst (λ x. Told x (viewOf way f)) (sym (p .0 ∙ check-gives way f held (rw (← p .0) g))) (own-entries way f accepted), o .0, o .1)
 
   -- Reading an accepted file into enough room gives its pay table;
-  module _ (f held left : List ℕ) (c : Checked) (r : Made) (q : Checks way f c) (p : Reads way f held r left) where
-    pub exactly-read : (r .answer ≡ Answer.Granted) ↔ ((c .answer ≡ Answer.Granted) × (length (tableOf way f) ≤ length held))
-    exactly-read = rw (p .0, q) (read-exactly way f held)
+  module _ (f held left : List ℕ) (r : Made) (p : Reads way f held r left) where
+    pub exactly-read : (r .answer ≡ Answer.Granted) ↔ ((checkedOf way f .answer ≡ Answer.Granted) × (length (tableOf way f) ≤ length held))
+    exactly-read = rw (p .0) (read-exactly way f held)
 
     pub read-gives : r .answer ≡ Answer.Granted → (r .length ≡ length (tableOf way f)) × (left ≡ tableOf way f ++ drop (length (tableOf way f)) held)
     read-gives g =
@@ -163,9 +179,9 @@ module _ (way : Way) where
         (ap (λ (m : Made). m .length) (p .0 ∙ ap (λ x. x .gives) o), p .1 ∙ ap (λ x. x .leaves) o)
 
   -- a table is written exactly if the file formed from it would be accepted and there is room. (Bytes of another shape are no table.)
-  module _ (t held left : List ℕ) (c : Checked) (r : Made) (q : Checks way (formed way t) c) (p : Writes way t held r left) where
-    pub exactly-written : (r .answer ≡ Answer.Granted) ↔ ((shaped t ≡ true) × (c .answer ≡ Answer.Granted) × (length (formed way t) ≤ length held))
-    exactly-written = rw (p .0, q) (write-exactly way t held)
+  module _ (t held left : List ℕ) (r : Made) (p : Writes way t held r left) where
+    pub exactly-written : (r .answer ≡ Answer.Granted) ↔ ((shaped t ≡ true) × (checkedOf way (formed way t) .answer ≡ Answer.Granted) × (length (formed way t) ≤ length held))
+    exactly-written = rw (p .0) (write-exactly way t held)
 
     pub write-gives : r .answer ≡ Answer.Granted → (r .length ≡ length (formed way t)) × (left ≡ formed way t ++ drop (length (formed way t)) held)
     write-gives g =
@@ -189,101 +205,71 @@ module _ (way : Way) where
       done s kept t room (q .0 ∙ rw (p .0, p .1) (ap (λ x. x .gives) o)) (q .1 ∙ rw (p .0, p .1) (ap (λ x. x .leaves) o))
 
   -- the table's debits and credits are the file's two totals, to the cent.
-  pub table-totals : (f held left : List ℕ) (c : Checked) (r : Made) → Checks way f c → Reads way f held r left → r .answer ≡ Answer.Granted
+  pub table-totals : (f held left rows list : List ℕ) (c : Checked) (r : Made) → Checks way f rows c list → c .answer ≡ Answer.Granted → Reads way f held r left → r .answer ≡ Answer.Granted
       → let es = entriesOf (viewOfTable (take (r .length) left)) in
       (sumOver debitOf es ≡ c .debit) × (sumOver creditOf es ≡ c .credit)
       × (part fileControl 6 (fileControlRecord (viewOf way f)) ≡ render 12 (c .debit)) × (part fileControl 7 (fileControlRecord (viewOf way f)) ≡ render 12 (c .credit))
-  table-totals f held left c r q p g =
+  table-totals f held left rows list c r q a p g =
       let h = read-exactly way f held .0 (rw (← p .0) g) in
-      let got = read-gives f held left c r q p g in
+      let got = read-gives f held left r p g in
       let t : take (r .length) left ≡ tableOf way f = rw (got .0, got .1) (take-append-seam (tableOf way f) (drop (length (tableOf way f)) held)) in
+      let gave : c ≡ checkedOf way f = q .0 ∙ check-gives way f rows (rw (← q .0) a) in
       let own = own-table way f (h .0) in
       let told = own-entries way f (h .0) in
       let fields = file-control-fields (viewOf way f) in
-      (rw (t, q) (own .0), rw (t, q) (own .1), fields .debit ∙ rw q (ap (render 12) (sym (told .debit))), fields .credit ∙ rw q (ap (render 12) (sym (told .credit))))
+      (rw (t, gave) (own .0), rw (t, gave) (own .1), fields .debit ∙ rw gave (ap (render 12) (sym (told .debit))), fields .credit ∙ rw gave (ap (render 12) (sym (told .credit))))
 
   -- ---- 3. In an accepted file one entry's amount may be altered:
 
-  module _ (f left : List ℕ) (k a : ℕ) (r : Altered) (p : Alters way f k a r left) where
-    -- granted exactly if the entry exists, the amount fits ten digits and the file written afresh from the altered table would be accepted.
-    pub exactly-altered : (r .answer ≡ Answer.Granted) ↔ Alterable way f k a
-    exactly-altered = rw (p .0) (alter-exactly way f k a)
+  module _ (f held left rows : List ℕ) (k a : ℕ) (r : Altered) (p : Alters way f held k a r left rows) where
+    -- granted exactly if the entry exists, the amount fits ten digits and the file written afresh from the altered table would be accepted, and
+    -- the first rows lent are the list of the file before the alteration.
+    pub exactly-altered : (r .answer ≡ Answer.Granted) ↔ (Alterable way f k a × (take (length (rowsOf (viewOf way f))) held ≡ rowsOf (viewOf way f)))
+    exactly-altered =
+        let own = begins-exactly (rowsOf (viewOf way f)) held in (
+          λ e. let h = listed-exactly way f held k a .0 (rw (← p .0) e) in (alter-exactly way f k a .0 (h .0), own .0 (h .1)),
+          λ h. rw (p .0) (listed-exactly way f held k a .1 (alter-exactly way f k a .1 (h .0), own .1 (h .1))),
+        )
 
     module _ (g : r .answer ≡ Answer.Granted) where
       granted : alterOf way f k a .gives .answer ≡ Answer.Granted
-      granted = rw (← p .0) g
+      granted = listed-exactly way f held k a .0 (rw (← p .0) g) .0
+
+      gave : (r ≡ alterOf way f k a .gives) × (left ≡ alterOf way f k a .leaves)
+      gave =
+          let o = as-asked way f held k a (alter-exactly way f k a .0 granted .accepted) (listed-exactly way f held k a .0 (rw (← p .0) g) .1) in
+          (p .0 ∙ sym (o .0), p .1 ∙ sym (o .1))
 
       -- The result is that file; (it is the one that write permits)
       pub alter-afresh : left ≡ formed way (alteredTable (tableOf way f) k a)
-      alter-afresh = p .1 ∙ alter-leaves way f k a granted
+      alter-afresh = gave .1 ∙ alter-leaves way f k a granted
 
-      pub alter-as-written : (held kept : List ℕ) (s : Made) → Writes way (alteredTable (tableOf way f) k a) held s kept → length f ≤ length held
+      pub alter-as-written : (lent kept : List ℕ) (s : Made) → Writes way (alteredTable (tableOf way f) k a) lent s kept → length f ≤ length lent
           → (s .answer ≡ Answer.Granted) × (s .length ≡ length left) × (take (s .length) kept ≡ left)
-      alter-as-written held kept s q l =
-          let o : writeOf way (alteredTable (tableOf way f) k a) held ≡ made Answer.Granted (alterOf way f k a .leaves) held =
-          ap (λ t. writeOf way t held) (sym (alter-table way f k a granted)) ∙ write-file way (alterOf way f k a .leaves) held (alter-accepted way f k a granted) (rw (alter-length way f k a granted) l) in
-          rw (p .1) (done s kept (alterOf way f k a .leaves) held (q .0 ∙ ap (λ x. x .gives) o) (q .1 ∙ ap (λ x. x .leaves) o))
+      alter-as-written lent kept s q l =
+          let o : writeOf way (alteredTable (tableOf way f) k a) lent ≡ made Answer.Granted (alterOf way f k a .leaves) lent =
+          ap (λ t. writeOf way t lent) (sym (alter-table way f k a granted)) ∙ write-file way (alterOf way f k a .leaves) lent (alter-accepted way f k a granted) (rw (alter-length way f k a granted) l) in
+          rw (gave .1) (done s kept (alterOf way f k a .leaves) lent (q .0 ∙ ap (λ x. x .gives) o) (q .1 ∙ ap (λ x. x .leaves) o))
 
       -- no byte differs outside that amount, the two totals of its batch and the two of the file.
       pub other-bytes : (i : ℕ) → Elsewhere (viewOf way f) k i → getD left i 0 ≡ getD f i 0
-      other-bytes i o = rw (p .1) (alter-bytes way f k a granted i (o .amount) (o .batch-debit) (o .batch-credit) (o .file-debit) (o .file-credit))
+      other-bytes i o = rw (gave .1) (alter-bytes way f k a granted i (o .amount) (o .batch-debit) (o .batch-credit) (o .file-debit) (o .file-credit))
 
       pub same-length : length left ≡ length f
-      same-length = rw (p .1) (alter-length way f k a granted)
+      same-length = rw (gave .1) (alter-length way f k a granted)
 
       -- it gives the new amount less the old, in cents
       pub difference : r .difference ≡ pos a -ℤ pos (amountOf (entryAt (viewOf way f) k))
-      difference = rw (p .0) (alter-difference way f k a granted)
+      difference = rw (gave .0) (alter-difference way f k a granted)
 
-  -- altering to the amount that stands there is granted, gives 0, and changes no byte
-  pub same-amount : (f left : List ℕ) (k : ℕ) (c : Checked) (r : Altered) → Checks way f c → c .answer ≡ Answer.Granted → exists (viewOf way f) k ≡ true
-      → Alters way f k (amountOf (entryAt (viewOf way f) k)) r left → (r .answer ≡ Answer.Granted) × (r .difference ≡ pos 0) × (left ≡ f)
-  same-amount f left k c r q g x p =
-      let o = alter-same way f k (rw (← q) g) x in
-      let given = p .0 ∙ ap (λ y. y .gives) o in
-      (ap (λ (m : Altered). m .answer) given, ap (λ (m : Altered). m .difference) given, p .1 ∙ ap (λ y. y .leaves) o)
-
-  -- After any run of alterations, refused ones among them, the file is the one written from the table with each granted amount put in, in order.
-  pub permitted : (calls : List (ℕ × ℕ)) (f g : List ℕ) → Run way calls f g → g ≡ alterRun way calls f
-  unfolding alterRun
-  permitted [] f g p = p
-  permitted (call ∷ calls) f g p = permitted calls (p .1) g (p .3) ∙ ap (alterRun way calls) (p .2 .1)
-
-  -- one call puts its amount into the table exactly if it is granted
-  pub granted-put : (f left : List ℕ) (k a : ℕ) (c : Checked) (r : Altered) → Checks way f c → c .answer ≡ Answer.Granted → Alters way f k a r left
-      → tableOf way left ≡ pick (isGranted (r .answer)) (alteredTable (tableOf way f) k a) (tableOf way f)
-  granted-put f left k a c r q g p =
-      let e : checkedOf way f .answer ≡ Answer.Granted = rw (← q) g in
-      rw (p .0, p .1) (alter-step way f k a e .1 ∙ ap (λ b. pick b (alteredTable (tableOf way f) k a) (tableOf way f)) (sym (may-put way f k a e)))
-
-  pub run-ends-in : (calls : List (ℕ × ℕ)) (f g : List ℕ) (c : Checked) → Checks way f c → c .answer ≡ Answer.Granted → Run way calls f g
-      → g ≡ formed way (tableRun way calls (tableOf way f))
-  run-ends-in calls f g c q a p = permitted calls f g p ∙ run-file way calls f (rw (← q) a)
-
-  pub run-as-written : (calls : List (ℕ × ℕ)) (f g held left : List ℕ) (c : Checked) (s : Made) → Checks way f c → c .answer ≡ Answer.Granted → Run way calls f g
-      → Writes way (tableRun way calls (tableOf way f)) held s left → length g ≤ length held
-      → (s .answer ≡ Answer.Granted) × (s .length ≡ length g) × (take (s .length) left ≡ g)
-  run-as-written calls f g held left c s q a p w l =
-      let e = permitted calls f g p in
-      let t = run-table way calls f (rw (← q) a) in
-      let o : writeOf way (tableRun way calls (tableOf way f)) held ≡ made Answer.Granted (alterRun way calls f) held =
-      ap (λ t. writeOf way t held) (sym (t .1)) ∙ write-file way (alterRun way calls f) held (t .0) (rw (← e) l) in
-      rw e (done s left (alterRun way calls f) held (w .0 ∙ ap (λ x. x .gives) o) (w .1 ∙ ap (λ x. x .leaves) o))
-
-  -- a run on a file that is not accepted leaves it as it was
-  pub run-of-refused : (calls : List (ℕ × ℕ)) (f g : List ℕ) (c : Checked) (x : Refusal) → Checks way f c → c .answer ≡ Answer.Refused x → Run way calls f g → g ≡ f
-  run-of-refused calls f g c x q a p = permitted calls f g p ∙ run-refused way calls f x (rw (← q) a)
-
-  -- for any calls a run is permitted, and no two end differently
-  pub run-one : (calls : List (ℕ × ℕ)) (f g h : List ℕ) → Run way calls f g → Run way calls f h → g ≡ h
-  run-one calls f g h p q = same (permitted calls f g p) (permitted calls f h q)
-
-  pub run-ends : (calls : List (ℕ × ℕ)) (f : List ℕ) → (g : List ℕ) × Run way calls f g
-  run-ends [] f = (f, refl)
-  run-ends (call ∷ calls) f =
-      let s = alter-ends f (call .0) (call .1) in
-      let e = run-ends calls (s .1) in
-      (e .0, (s .0, s .1, s .2, e .1))
+  -- altering to the amount that stands there, with the file's list, is granted, gives 0, and changes no byte
+  pub same-amount : (f held left rows : List ℕ) (k : ℕ) (r : Altered) → checkedOf way f .answer ≡ Answer.Granted → trueList way f held ≡ true → exists (viewOf way f) k ≡ true
+      → Alters way f held k (amountOf (entryAt (viewOf way f) k)) r left rows → (r .answer ≡ Answer.Granted) × (r .difference ≡ pos 0) × (left ≡ f)
+  same-amount f held left rows k r g t x p =
+      let o = alter-same way f k g x in
+      let asked = as-asked way f held k (amountOf (entryAt (viewOf way f) k)) g t in
+      let given = p .0 ∙ sym (asked .0) ∙ ap (λ y. y .gives) o in
+      (ap (λ (m : Altered). m .answer) given, ap (λ (m : Altered). m .difference) given, p .1 ∙ sym (asked .1) ∙ ap (λ y. y .leaves) o)
 
   -- ---- An entry's addendum is handed out: it is the addendum that the file says of that entry, or empty where it has none or the question is refused.
 

@@ -21,7 +21,8 @@ use Rattle.layout.specs.Fields.{entry, part, rowsOf, firstField}
 use Rattle.codes.specs.declared.Code.{Code}
 use Rattle.codes.specs.Codes.{codeOf, known, allowed, carries, remits}
 use Rattle.kinds.specs.declared.Mark.{Mark}
-use Rattle.kinds.specs.Kinds.{need, isAccount, account}
+use Rattle.kinds.specs.Kinds.{need}
+use Rattle.own.specs.Rules.{isAccount, account}
 use Rattle.near.specs.declared.Sums.{Sums}
 use Rattle.near.specs.Near.{entryCode, batchClass, codeRule, amountRule, flagRule, traceBank, batchBank, traceNumber, traceFollows, traceRule}
 use Rattle.rules.specs.Field.{fieldOf}

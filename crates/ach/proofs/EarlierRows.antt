@@ -23,7 +23,7 @@ use Rattle.records.specs.declared.Verdict.{Verdict}
 use Rattle.records.specs.declared.Stepped.{Stepped}
 use Rattle.records.specs.Run.{Piece, lineOf, stepped, closing, refused, accepted, onward, lengthFits, rawRecords, pieceOf, checkedOf}
 use Rattle.view.specs.Keeps.{codes}
-use Rattle.view.proofs.Own.{code-back}
+use Rattle.bridge.proofs.Own.{code-back}
 use Rattle.ach.specs.Earlier.{fieldsBy, recordBy, runBy, checkedBy, unremitted}
 use Rattle.ach.proofs.Earlier.{RightBy, refused-never, passed-by, passed-right, told, money, same-code, remittances-keep}
 

@@ -22,8 +22,8 @@ use Rattle.order.specs.Order.{complete}
 use Rattle.tally.specs.Tally.{start, tally}
 use Rattle.records.specs.Run.{found, fieldsFrom, lineOf, Piece, closing, stepped, recordOf, refused, accepted, runFrom, lengthFits, rawRecords, pieceOf, checkedOf}
 use Rattle.view.specs.Keeps.{Right}
-use Rattle.view.proofs.Answers.{not-granted}
-use Rattle.view.proofs.BridgeFields.{passed-right}
+use Rattle.bridge.proofs.Answers.{not-granted}
+use Rattle.bridge.proofs.BridgeFields.{passed-right}
 use Rattle.ach.proofs.Bounds.{one-more, carried}
 use Rattle.layout.specs.declared.Way.{Way}
 

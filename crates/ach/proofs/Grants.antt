@@ -18,16 +18,17 @@ use Rattle.layout.specs.declared.Made.{Made}
 use Rattle.records.specs.Run.{checkedOf}
 use Rattle.view.specs.View.{entriesOf, amountOf, fileOf, viewOf}
 use Rattle.view.specs.Table.{shaped, formed, tableOf}
-use Rattle.view.specs.Outcome.{refusal, demand, andThen, room, made, readOf, writeOf, noEntry, entryAt, amend, alterOf}
+use Rattle.view.specs.Outcome.{demand, andThen, room, made, readOf, writeOf, noEntry, entryAt, amend, alterOf}
+use Rattle.layout.specs.Paper.{refusal}
 use Rattle.view.specs.Sized.{SizedEntry}
-use Rattle.view.proofs.Answers.{not-granted, demand-granted, then-granted}
-use Rattle.view.proofs.Bridge.{accepted-view}
-use Rattle.view.proofs.Lists.{all-at}
-use Rattle.view.proofs.Reading.{view-of-file}
-use Rattle.view.proofs.Tables.{entries-sized, formed-of-table}
-use Rattle.view.proofs.Amend.{amended-amount, entry-amended, amend-sized, table-amended}
-use Rattle.view.proofs.RoundTrips.{file-back, read-done, write-done}
-use Rattle.view.proofs.Alter.{alter-exactly, alter-leaves}
+use Rattle.bridge.proofs.Answers.{not-granted, demand-granted, then-granted}
+use Rattle.bridge.proofs.Bridge.{accepted-view}
+use Rattle.bridge.proofs.Lists.{all-at}
+use Rattle.bridge.proofs.Reading.{view-of-file}
+use Rattle.bridge.proofs.Tables.{entries-sized, formed-of-table}
+use Rattle.bridge.proofs.Amend.{amended-amount, entry-amended, amend-sized, table-amended}
+use Rattle.bridge.proofs.RoundTrips.{file-back, read-done, write-done}
+use Rattle.bridge.proofs.Alter.{alter-exactly, alter-leaves}
 use Rattle.layout.specs.declared.Way.{Way}
 
 -- ---- the answer of what was made

@@ -4,6 +4,8 @@ pub mod Bounds
 pub mod First
 pub mod Grants
 pub mod Demands
+pub mod Runs
+pub mod Money
 pub mod Recalls
 pub mod Idle
 pub mod FieldBack

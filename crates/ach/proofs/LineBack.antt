@@ -22,7 +22,7 @@ use Rattle.cells.specs.Grammar.{cellOf, textOf, stopFrom, textFrom, fieldsRight
 use Rattle.comma.specs.Entries.{try, textsVerdict, lineVerdict, allColumns, restOfRow, rowOfLine, entriesOfLines}
 use Rattle.comma.specs.Import.{lineAnswer, linesAnswer}
 use Rattle.quoting.specs.Quoting.{trimmed, quoted, unpadded, amountText}
-use Rattle.exporting.specs.Export.{lineFields, commaLine, lineOfRow}
+use Rattle.lining.specs.CommaLines.{lineFields, commaLine, lineOfRow}
 use Rattle.quoting.proofs.FieldLaws.{trimmed-take, trimmed-short}
 use Rattle.ach.proofs.FieldBack.{isPrintable, cell-back, text-back, filled-back, unpadded-every, right-back, digits-back}
 

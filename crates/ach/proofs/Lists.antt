@@ -16,14 +16,16 @@ use Rattle.layout.specs.declared.Way.{Way}
 use Rattle.records.specs.Run.{checkedOf}
 use Rattle.view.specs.View.{entriesOf, viewOf}
 use Rattle.view.specs.Table.{shaped, formed, tableBytes}
-use Rattle.view.specs.Outcome.{refusal, demand, andThen, made, room}
-use Rattle.view.proofs.Answers.{not-granted, then-granted, demand-granted}
-use Rattle.view.proofs.Tables.{view-of-table, view-of-formed}
+use Rattle.view.specs.Outcome.{demand, andThen, made, room}
+use Rattle.layout.specs.Paper.{refusal}
+use Rattle.bridge.proofs.Answers.{not-granted, then-granted, demand-granted}
+use Rattle.bridge.proofs.Tables.{view-of-table, view-of-formed}
 use Rattle.writing.specs.Judge.{writable}
 use Rattle.cells.specs.Grammar.{linesIn}
 use Rattle.comma.specs.Entries.{entriesOfLines}
 use Rattle.comma.specs.Import.{linesAnswer, bankIn, importView, importTable, rowsFit, importAnswer, importOf}
-use Rattle.exporting.specs.Export.{exported, exportOf}
+use Rattle.lining.specs.CommaLines.{exported}
+use Rattle.exporting.specs.Export.{exportOf}
 use Rattle.ach.proofs.RoundTrip.{SameFields, export-import}
 use Rattle.listing.proofs.TableLaws.{entries-many, import-sized}
 use Rattle.importing.proofs.Judging.{table-right, rows-fit, import-granted}

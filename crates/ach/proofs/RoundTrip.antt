@@ -17,7 +17,8 @@ use Rattle.layout.specs.declared.Answer.{Answer}
 use Rattle.layout.specs.declared.Fault.{Fault}
 use Rattle.layout.specs.declared.Way.{Way}
 use Rattle.layout.specs.Fields.{entry, part}
-use Rattle.kinds.specs.Kinds.{isText, isAccount}
+use Rattle.kinds.specs.Kinds.{isText}
+use Rattle.own.specs.Rules.{isAccount}
 use Rattle.near.specs.declared.Sums.{Sums}
 use Rattle.near.specs.Near.{entryTrace, batchNumber}
 use Rattle.view.specs.View.{Entry, Batch, View, entryRecord, batchRecord, recordsIn, entriesOf}
@@ -25,11 +26,11 @@ use Rattle.view.specs.Table.{countWide, fileWide, headWide, batchWide, entryWid
 use Rattle.view.specs.Sized.{All, SizedEntry, SizedBatch, Sized}
 use Rattle.view.specs.Keeps.{Right, seen, EntriesKeep, BatchesKeep}
 use Rattle.view.specs.Outcome.{andThen, made, room}
-use Rattle.view.proofs.Lists.{all-append}
-use Rattle.view.proofs.Answers.{not-granted, demand-granted, then-granted}
-use Rattle.view.proofs.Tables.{entriesIn, entries-sized, rows-of-entries, entry-part, shaped-sized, table-of-view}
-use Rattle.view.proofs.BridgeFields.{need-right}
-use Rattle.view.proofs.Bridge.{keeps-exactly}
+use Rattle.bridge.proofs.Lists.{all-append}
+use Rattle.bridge.proofs.Answers.{not-granted, demand-granted, then-granted}
+use Rattle.bridge.proofs.Tables.{entriesIn, entries-sized, rows-of-entries, entry-part, shaped-sized, table-of-view}
+use Rattle.bridge.proofs.BridgeFields.{need-right}
+use Rattle.bridge.proofs.Bridge.{keeps-exactly}
 use Rattle.text.proofs.SetLaws.{drop-take}
 use Rattle.writing.specs.Judge.{writable}
 use Rattle.writing.proofs.WriteLaws.{shape-right, file-right}
@@ -37,7 +38,8 @@ use Rattle.cells.specs.Grammar.{linesIn}
 use Rattle.comma.specs.Entries.{restOfRow, rowOfLine, entriesOfLines}
 use Rattle.comma.specs.Import.{linesAnswer, bankIn, importTable, mostLines, rowsFit, importAnswer, importOf}
 use Rattle.listing.proofs.TableLaws.{no-addenda, oneBatch, one-sized}
-use Rattle.exporting.specs.Export.{lineOfRow, exported, exportOf}
+use Rattle.lining.specs.CommaLines.{lineOfRow, exported}
+use Rattle.exporting.specs.Export.{exportOf}
 use Rattle.ach.proofs.FieldBack.{isPrintable}
 use Rattle.ach.proofs.LineBack.{Plain, printable-by, digit-printable, digits-printable, row-back, linesOf, tailsOf, lines-back, lines-granted, fields-again}
 

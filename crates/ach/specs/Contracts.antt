@@ -9,16 +9,23 @@ use Rattle.layout.specs.declared.Checked.{Checked}
 use Rattle.layout.specs.declared.Made.{Made}
 use Rattle.layout.specs.declared.Altered.{Altered}
 use Rattle.layout.specs.declared.Way.{Way}
-use Rattle.finding.specs.declared.AskedSpan.{AskedSpan}
-use Rattle.records.specs.Run.{checkedOf}
+use Rattle.asking.specs.declared.AskedSpan.{AskedSpan}
+use Rattle.funds.specs.declared.RunsOut.{RunsOut}
+use Rattle.funds.specs.Funds.{runsOut}
+use Rattle.funds.specs.Outcome.{checkOf}
+use Rattle.relisting.specs.Listed.{alterListedOf}
 use Rattle.comma.specs.Import.{importOf}
 use Rattle.exporting.specs.Export.{exportOf}
-use Rattle.view.specs.Outcome.{readOf, writeOf, alterOf, addendumAnswer, addendumOf}
+use Rattle.view.specs.Outcome.{readOf, writeOf, addendumAnswer, addendumOf}
 use Rattle.without.specs.Without.{takeOutOf}
 
--- check: the file f answered with r
-abbrev pub Checks : Way → List ℕ → Checked → Type 0
-Checks way f r = r ≡ checkedOf way f
+-- check: the file f, and a lent list that held `held` and then holds `left`
+abbrev pub Checks : Way → List ℕ → List ℕ → Checked → List ℕ → Type 0
+Checks way f held r left = (r ≡ checkOf way f held .gives) × (left ≡ checkOf way f held .leaves)
+
+-- runs_out: the limit asked of a list, which is lent to be read
+abbrev pub Finds : List ℕ → ℕ → RunsOut → Type 0
+Finds rows limit r = r ≡ runsOut limit rows
 
 -- read: the file f, and a lent table that held `held` and then holds `left`
 abbrev pub Reads : Way → List ℕ → List ℕ → Made → List ℕ → Type 0
@@ -28,13 +35,18 @@ Reads way f held r left = (r ≡ readOf way f held .gives) × (left ≡ readOf w
 abbrev pub Writes : Way → List ℕ → List ℕ → Made → List ℕ → Type 0
 Writes way t held r left = (r ≡ writeOf way t held .gives) × (left ≡ writeOf way t held .leaves)
 
--- alter: a lent file that held f and then holds `left`, its entry k and the new amount
-abbrev pub Alters : Way → List ℕ → ℕ → ℕ → Altered → List ℕ → Type 0
-Alters way f k amount r left = (r ≡ alterOf way f k amount .gives) × (left ≡ alterOf way f k amount .leaves)
+-- alter: a lent file that held f and then holds `left`, its entry k and the new amount, and a lent list that held `held` and then holds `rows`
+abbrev pub Alters : Way → List ℕ → List ℕ → ℕ → ℕ → Altered → List ℕ → List ℕ → Type 0
+Alters way f held k amount r left rows =
+    (r ≡ alterListedOf way f held k amount .gives)
+    × (left ≡ alterListedOf way f held k amount .leaves)
+    × (rows ≡ alterListedOf way f held k amount .rows)
 
--- taking out: a lent file that held f and then holds `left`, and the list of entry numbers, which is lent to be read
-abbrev pub TakesOut : Way → List ℕ → List ℕ → Made → List ℕ → Type 0
-TakesOut way f ns r left = (r ≡ takeOutOf way f ns .gives) × (left ≡ takeOutOf way f ns .leaves)
+-- taking out: a lent file that held f and then holds `left`, the list of entry numbers, which is lent to be read, and a lent list that held
+-- `held` and then holds `rows`
+abbrev pub TakesOut : Way → List ℕ → List ℕ → List ℕ → Made → List ℕ → List ℕ → Type 0
+TakesOut way f ns held r left rows =
+    (r ≡ takeOutOf way f ns held .gives) × (left ≡ takeOutOf way f ns held .leaves) × (rows ≡ takeOutOf way f ns held .rows)
 
 -- import: the two rows and the lines of a list, and a lent table that held `held` and then holds `left`
 abbrev pub Imports : List ℕ → List ℕ → List ℕ → List ℕ → Made → List ℕ → Type 0
@@ -57,7 +69,9 @@ Explains way f k r = r ≡ addendumAnswer way f k
 abbrev pub Spans : Way → List ℕ → ℕ → AskedSpan → Type 0
 Spans way f k r = (r .answer ≡ addendumAnswer way f k) × (r .from ≡ addendumOf way f k .from) × (r .size ≡ addendumOf way f k .size)
 
--- calls of alter one after another, each of an entry number and an amount, from the file f to the file g: each is lent what the one before it left
-abbrev pub Run : Way → List (ℕ × ℕ) → List ℕ → List ℕ → Type 0
-Run way [] f g = g ≡ f
-Run way (call ∷ calls) f g = (r : Altered) × (left : List ℕ) × Alters way f (call .0) (call .1) r left × Run way calls left g
+-- calls of alter one after another, each of an entry number and an amount, from the file f and the list `held` to the file g and the list `rows`:
+-- each is lent what the one before it left
+abbrev pub Run : Way → List (ℕ × ℕ) → List ℕ → List ℕ → List ℕ → List ℕ → Type 0
+Run way [] f held g rows = (g ≡ f) × (rows ≡ held)
+Run way (call ∷ calls) f held g rows =
+    (r : Altered) × (left : List ℕ) × (list : List ℕ) × Alters way f held (call .0) (call .1) r left list × Run way calls left list g rows

@@ -19,7 +19,8 @@ use Rattle.layout.specs.Fields.{rowsOf, firstField}
 use Rattle.codes.specs.declared.Code.{Code}
 use Rattle.codes.specs.Codes.{codeOf, known, allowed, carries, remits}
 use Rattle.kinds.specs.declared.Mark.{Mark}
-use Rattle.kinds.specs.Kinds.{need, blank, unbroken, ownRule}
+use Rattle.kinds.specs.Kinds.{need, blank}
+use Rattle.own.specs.Rules.{unbroken, ownRule}
 use Rattle.near.specs.declared.Sums.{Sums}
 use Rattle.near.specs.Near.{entryCode, batchClass, traceBank, traceNumber, batchBank, nearRule}
 use Rattle.rules.specs.Field.{kindRule}

@@ -5,13 +5,21 @@ use layout::Checked;
 use layout::EntryNo;
 use layout::Made;
 use layout::Way;
-ghost use Rattle.ach.specs.Contracts.{Checks, Reads, Writes, Alters, TakesOut, Imports, Exports, HandsOut, Explains, Spans};
+ghost use Rattle.ach.specs.Contracts.{Checks, Finds, Reads, Writes, Alters, TakesOut, Imports, Exports, HandsOut, Explains, Spans};
 
-// A file is accepted exactly if it keeps the rules; else the first refusal is named.
-pub fn check(way: Way, file: &[u8]) -> Checked
-    ensures { λ r. ⌜ Checks way (now (file .entry)) r ⌝ }
+// A file is accepted exactly if it keeps the rules; else the first refusal is named. Its list, one row a batch, goes to the front of the lent
+// rows, and too few of them are refused last.
+pub fn check(way: Way, file: &[u8], rows: &mut [u64]) -> Checked
+    ensures { λ r. ⌜ Checks way (now (file .entry)) (now (rows .entry)) r (now (rows .exit)) ⌝ }
 {
-    accept::check(way, file)
+    filling::check(way, file, rows)
+}
+
+// Where the money runs out: of any list the first row over the limit.
+pub fn runs_out(rows: &[u64], limit: u64) -> funds::RunsOut
+    ensures { λ r. ⌜ Finds (now (rows .entry)) limit r ⌝ }
+{
+    funds::runs_out(rows, limit)
 }
 
 // The pay table of an accepted file, written to the front of the lent table.
@@ -28,18 +36,19 @@ pub fn write(way: Way, table: &[u8], file: &mut [u8]) -> Made
     writing::write(way, table, file)
 }
 
-// One entry's amount altered in place, with the totals of its side.
-pub fn alter(way: Way, file: &mut [u8], entry: EntryNo, amount: u64) -> Altered
-    ensures { λ r. ⌜ Alters way (now (file .entry)) (entry .0) amount r (now (file .exit)) ⌝ }
+// One entry's amount altered in place, with the totals of its side; the lent rows begin with the file's list, and then with the altered file's.
+pub fn alter(way: Way, file: &mut [u8], rows: &mut [u64], entry: EntryNo, amount: u64) -> Altered
+    ensures { λ r. ⌜ Alters way (now (file .entry)) (now (rows .entry)) (entry .0) amount r (now (file .exit)) (now (rows .exit)) ⌝ }
 {
-    altering::alter(way, file, entry, amount)
+    relisting::alter(way, file, rows, entry, amount)
 }
 
-// The entries of a list taken out in place, with their addenda; the freed bytes become blanks.
-pub fn take_out(way: Way, file: &mut [u8], entries: &[u64]) -> Made
-    ensures { λ r. ⌜ TakesOut way (now (file .entry)) (now (entries .entry)) r (now (file .exit)) ⌝ }
+// The entries of a list taken out in place, with their addenda; the freed bytes become blanks, and the list of what is left goes to the front
+// of the lent rows.
+pub fn take_out(way: Way, file: &mut [u8], entries: &[u64], rows: &mut [u64]) -> Made
+    ensures { λ r. ⌜ TakesOut way (now (file .entry)) (now (entries .entry)) (now (rows .entry)) r (now (file .exit)) (now (rows .exit)) ⌝ }
 {
-    recalling::take_out(way, file, entries)
+    recalling::take_out(way, file, entries, rows)
 }
 
 // The pay table of a client's comma lines, with the given rows for file and batch, written to the front of the lent table.
@@ -60,19 +69,19 @@ pub fn export(table: &[u8], lines: &mut [u8]) -> Made
 pub fn addendum(way: Way, file: &[u8], entry: EntryNo) -> &[u8]
     ensures { λ r. ⌜ HandsOut way (now (file .entry)) (entry .0) (now r) ⌝ }
 {
-    finding::addendum(way, file, entry)
+    asking::addendum(way, file, entry)
 }
 
 // The second question, of the same file and number: why there is no addendum.
 pub fn addendum_answer(way: Way, file: &[u8], entry: EntryNo) -> Answer
     ensures { λ r. ⌜ Explains way (now (file .entry)) (entry .0) r ⌝ }
 {
-    finding::addendum_answer(way, file, entry)
+    asking::addendum_answer(way, file, entry)
 }
 
 // The answer and where the addendum stands in the file, for callers that cannot be handed a part of it.
-pub fn asked_span(way: Way, file: &[u8], entry: EntryNo) -> finding::AskedSpan
+pub fn asked_span(way: Way, file: &[u8], entry: EntryNo) -> asking::AskedSpan
     ensures { λ r. ⌜ Spans way (now (file .entry)) (entry .0) r ⌝ }
 {
-    finding::asked_span(way, file, entry)
+    asking::asked_span(way, file, entry)
 }

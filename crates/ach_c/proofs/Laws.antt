@@ -1,38 +1,14 @@
--- Why an answer's code fits, and what twenty-nine stores make of a lent array.
+-- What a question leaves in the lent numbers.
 -- Assumes nothing.
-use Prim.Native.Nat.{ℕ, _≤_}
-use mathlib.Core.Path.{_≡_, refl, sym}
+use Prim.Native.Nat.{ℕ}
+use mathlib.Core.Path.{_≡_, refl}
+use mathlib.Core.Bool.{Bool}
 use mathlib.Core.List.{List, [], _∷_}
 use lib.Seq.{sets}
-use Rattle.text.proofs.SetLaws.{sets-append}
-use Rattle.layout.specs.declared.Answer.{Answer}
-use Rattle.layout.specs.declared.Checked.{Checked}
-use Rattle.layout.specs.declared.Refusal.{Refusal}
-use Rattle.layout.specs.declared.Fault.{Fault}
-use Rattle.layout.specs.Paper.{numberOf}
-use Rattle.ach.proofs.Bounds.{number-range}
-use Rattle.ach_c.specs.Boundary.{codeOfAnswer, numbersOf, numbersLeft, left}
+use Rattle.text.specs.Decimal.{pick}
+use Rattle.funds.specs.declared.RunsOut.{RunsOut}
+use Rattle.ach_c.specs.Rows.{rowNumbers}
 
-pub number-le : (f : Fault) → numberOf f ≤ 32
-number-le f = number-range f .1
-
--- what a granted check leaves in the lent numbers
-pub granted-left : (c d : Checked) (lent : List ℕ) → c ≡ d → c .answer ≡ Answer.Granted
-    → (0 ≡ codeOfAnswer (d .answer))
-    × (sets (sets lent 0 (c .batches ∷ c .entries ∷ c .addenda ∷ c .debit ∷ c .credit ∷ [])) 5 (c .bycode) ≡ numbersLeft (d .answer) (numbersOf d) lent)
-granted-left c d lent e g =
-    rw (← e, g) (refl, sym (sets-append lent 0 (c .batches ∷ c .entries ∷ c .addenda ∷ c .debit ∷ c .credit ∷ []) (c .bycode)))
-
--- and a refused one leaves them as they were
-pub refused-left : (c d : Checked) (lent : List ℕ) (r : Refusal) → c ≡ d → c .answer ≡ Answer.Refused r → lent ≡ numbersLeft (d .answer) (numbersOf d) lent
-refused-left c d lent r e g = rw (← e, g) refl
-
--- a grant is coded 0, and gives its number; a refusal leaves the lent one
-pub granted-code : (a b : Answer) → a ≡ b → a ≡ Answer.Granted → 0 ≡ codeOfAnswer b
-granted-code a b e g = rw (← e, g) refl
-
-pub granted-gives : {A : Type 0} (a b : Answer) (x y lent : A) → a ≡ b → a ≡ Answer.Granted → x ≡ y → x ≡ left b y lent
-granted-gives a b x y lent e g p = rw (← e, g) p
-
-pub refused-lent : {A : Type 0} (a b : Answer) (r : Refusal) (y lent : A) → a ≡ b → a ≡ Answer.Refused r → lent ≡ left b y lent
-refused-lent a b r y lent e g = rw (← e, g) refl
+pub found-told : (r s : RunsOut) (lent : List ℕ) (b : Bool) → r ≡ s → r .found ≡ b
+    → (_≡_ {A = ℕ} (pick b 1 0) (pick (s .found) 1 0)) × (sets lent 0 (r .rows ∷ r .record ∷ r .credits ∷ []) ≡ sets lent 0 (rowNumbers s))
+found-told r s lent b e f = rw (← e, f) (refl, refl)

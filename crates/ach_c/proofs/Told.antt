@@ -8,15 +8,17 @@ use lib.ListN.{length}
 use native.Mathlib.Omega.{arith}
 use Rattle.layout.specs.declared.Answer.{Answer}
 use Rattle.layout.specs.Paper.{paperOf}
-use Rattle.records.specs.Run.{checkedOf}
-use Rattle.view.specs.Outcome.{readOf, writeOf, alterOf, addendumAnswer}
+use Rattle.funds.specs.Outcome.{checkOf}
+use Rattle.relisting.specs.Listed.{alterListedOf}
+use Rattle.view.specs.Outcome.{readOf, writeOf, addendumAnswer}
 use Rattle.without.specs.Without.{takeOutOf}
 use Rattle.comma.specs.Import.{importOf}
 use Rattle.exporting.specs.Export.{exportOf}
-use Rattle.view.proofs.Answers.{not-granted}
+use Rattle.bridge.proofs.Answers.{not-granted}
 use Rattle.layout.specs.declared.Way.{Way}
-use Rattle.ach.proofs.Bounds.{Coded, low-coded, number-range, import-coded, export-low, check-low, read-low, write-low, alter-low, recall-low, addendum-low}
-use Rattle.ach_c.specs.Boundary.{codeOfAnswer}
+use Rattle.ach.proofs.Bounds.{Coded, low-coded, import-coded, export-low, check-low, read-low, write-low, alter-low, recall-low, addendum-low}
+use Rattle.told.proofs.Laws.{number-range}
+use Rattle.told.specs.Boundary.{codeOfAnswer}
 
 -- the code c gives the three numbers back, and is 0 exactly if it is granted
 pub record Told (c : ℕ) (a : Answer) : Type 0 where
@@ -26,7 +28,7 @@ pub record Told (c : ℕ) (a : Answer) : Type 0 where
   pub granted : (c ≡ 0) ↔ (a ≡ Answer.Granted)
 
 -- three small numbers, packed and unpacked
-module _ (n f r : ℕ) (p : n ≤ 32) (q : f ≤ 13) (l : r ≤ 4294967295) where
+module _ (n f r : ℕ) (p : n ≤ 34) (q : f ≤ 13) (l : r ≤ 4294967295) where
   abbrev code : ℕ
   code = n + 256 * (f % 256) + 65536 * (r % 4294967296)
 
@@ -48,9 +50,9 @@ told (Answer.Refused x) l =
       granted = (λ e. absurd (not-zero _ (x .field) (x .record .0) (n .1) (l .0) (l .1) (n .0) e), not-granted);
     }
 
--- so it is with each of the eight functions
-pub check-told : (way : Way) (f : List ℕ) → Told (codeOfAnswer (checkedOf way f .answer)) (checkedOf way f .answer)
-check-told way f = told (checkedOf way f .answer) (low-coded (checkedOf way f .answer) (check-low way f))
+-- so it is with each of the eight functions that may refuse
+pub check-told : (way : Way) (f held : List ℕ) → Told (codeOfAnswer (checkOf way f held .gives .answer)) (checkOf way f held .gives .answer)
+check-told way f held = told (checkOf way f held .gives .answer) (low-coded (checkOf way f held .gives .answer) (check-low way f held))
 
 pub read-told : (way : Way) (f table : List ℕ) → Told (codeOfAnswer (readOf way f table .gives .answer)) (readOf way f table .gives .answer)
 read-told way f table = told (readOf way f table .gives .answer) (low-coded (readOf way f table .gives .answer) (read-low way f table))
@@ -58,14 +60,14 @@ read-told way f table = told (readOf way f table .gives .answer) (low-coded (rea
 pub write-told : (way : Way) (t file : List ℕ) → Told (codeOfAnswer (writeOf way t file .gives .answer)) (writeOf way t file .gives .answer)
 write-told way t file = told (writeOf way t file .gives .answer) (low-coded (writeOf way t file .gives .answer) (write-low way t file))
 
-pub alter-told : (way : Way) (f : List ℕ) (k a : ℕ) → Told (codeOfAnswer (alterOf way f k a .gives .answer)) (alterOf way f k a .gives .answer)
-alter-told way f k a = told (alterOf way f k a .gives .answer) (low-coded (alterOf way f k a .gives .answer) (alter-low way f k a))
+pub alter-told : (way : Way) (f held : List ℕ) (k a : ℕ) → Told (codeOfAnswer (alterListedOf way f held k a .gives .answer)) (alterListedOf way f held k a .gives .answer)
+alter-told way f held k a = told (alterListedOf way f held k a .gives .answer) (low-coded (alterListedOf way f held k a .gives .answer) (alter-low way f held k a))
 
 pub addendum-told : (way : Way) (f : List ℕ) (k : ℕ) → Told (codeOfAnswer (addendumAnswer way f k)) (addendumAnswer way f k)
 addendum-told way f k = told (addendumAnswer way f k) (low-coded (addendumAnswer way f k) (addendum-low way f k))
 
-pub recall-told : (way : Way) (f ns : List ℕ) → Told (codeOfAnswer (takeOutOf way f ns .gives .answer)) (takeOutOf way f ns .gives .answer)
-recall-told way f ns = told (takeOutOf way f ns .gives .answer) (low-coded (takeOutOf way f ns .gives .answer) (recall-low way f ns))
+pub recall-told : (way : Way) (f ns held : List ℕ) → Told (codeOfAnswer (takeOutOf way f ns held .gives .answer)) (takeOutOf way f ns held .gives .answer)
+recall-told way f ns held = told (takeOutOf way f ns held .gives .answer) (low-coded (takeOutOf way f ns held .gives .answer) (recall-low way f ns held))
 
 -- of importing while a line's number is below 2 ^ 32
 pub import-told : (filerow batchrow lines table : List ℕ) → length lines ≤ 4294967295

@@ -9,5 +9,7 @@ fn main() {
         lines::print_refusal(23, 0, 0);
         return;
     }
-    lines::print_checked(ach::check(Way::Plain, &buffer[..n]));
+    // 64,860 bytes hold no more than 229 batches
+    let mut rows = [0u64; 458];
+    lines::print_checked(ach::check(Way::Plain, &buffer[..n], &mut rows));
 }

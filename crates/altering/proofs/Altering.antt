@@ -23,12 +23,13 @@ use Rattle.rules.specs.Field.{totalLimit}
 use Rattle.records.specs.Run.{columnsIn, checkedOf}
 use Rattle.view.specs.View.{Entry, View, entriesOf, sumOver, debitOf, creditOf, amountOf, codeIn, batchControlRecord, fileOf, viewOf}
 use Rattle.view.specs.Sized.{Sized}
-use Rattle.view.specs.Outcome.{refusal, demand, andThen, exists, entryAt, spotOf, entryNumber, batchControlNumber, fileControlNumber, amend, within, limits, addendumAnswer, alterAnswer, altered, alterOf}
-use Rattle.view.proofs.Formed.{BatchControlFields, batch-control-fields}
-use Rattle.view.proofs.Amend.{spot-sized, batch-moved, file-moved, debit-moved, credit-moved}
-use Rattle.view.proofs.AmendFile.{file-amended-debit, file-amended-credit}
-use Rattle.view.proofs.Bridge.{accepted-view}
-use Rattle.view.proofs.Own.{own-entries}
+use Rattle.view.specs.Outcome.{demand, andThen, exists, entryAt, spotOf, entryNumber, batchControlNumber, fileControlNumber, amend, within, limits, addendumAnswer, alterAnswer, altered, alterOf}
+use Rattle.layout.specs.Paper.{refusal}
+use Rattle.bridge.proofs.Formed.{BatchControlFields, batch-control-fields}
+use Rattle.bridge.proofs.Amend.{spot-sized, batch-moved, file-moved, debit-moved, credit-moved}
+use Rattle.bridge.proofs.AmendFile.{file-amended-debit, file-amended-credit}
+use Rattle.bridge.proofs.Bridge.{accepted-view}
+use Rattle.bridge.proofs.Own.{own-entries}
 use Rattle.finding.specs.declared.find.Places.{Places}
 use Rattle.sides.specs.declared.Side.{Side}
 use Rattle.layout.specs.declared.Way.{Way}
@@ -50,7 +51,7 @@ asked-first (Answer.Refused x) t none more r e = e
 pub refused-first : (way : Way) (f : List ℕ) (k amount : ℕ) (r : Refusal) → addendumAnswer way f k ≡ Answer.Refused r → Comes (Answer.Refused r) (pos 0) f (alterOf way f k amount)
 refused-first way f k amount r e = comes-refused _ _ f _ r (asked-first (checkedOf way f .answer) (exists (viewOf way f) k) _ _ r e)
 
-asked-granted : (a : Answer) (t : Bool) (none more : Answer) → a ≡ Answer.Granted → t ≡ true → andThen a (demand t none more) ≡ more
+pub asked-granted : (a : Answer) (t : Bool) (none more : Answer) → a ≡ Answer.Granted → t ≡ true → andThen a (demand t none more) ≡ more
 asked-granted a t none more e h = rw (e, h)
 
 -- an amount that a code carries has ten digits

@@ -3,7 +3,7 @@ use codes::Code;
 use finding::find;
 use layout::Altered;
 use layout::Answer;
-use layout::EntryNo;
+use layout::Checked;
 use layout::Fault;
 use layout::Way;
 ghost use mathlib.Core.Path.{_≡_};
@@ -23,14 +23,14 @@ fn alter_there(way: Way, file: &mut [u8], k: u64, amount: u64, debit: u64, credi
     let old = said.amount;
     if !codes::carries(code, amount) {
         return Altered {
-            answer: finding::refused(Fault::Amount, at as u64 + 1, 6),
+            answer: layout::refused(Fault::Amount, at as u64 + 1, 6),
             difference: 0,
         };
     }
     match code {
         // carries no amount, so it does not come here
         Code::Unknown => Altered {
-            answer: finding::refused(Fault::Amount, at as u64 + 1, 6),
+            answer: layout::refused(Fault::Amount, at as u64 + 1, 6),
             difference: 0,
         },
         Code::Credit(_) => {
@@ -42,13 +42,12 @@ fn alter_there(way: Way, file: &mut [u8], k: u64, amount: u64, debit: u64, credi
     }
 }
 
-// One entry's amount altered, with the totals of its side; a refusal leaves every byte as it was.
-pub fn alter(way: Way, file: &mut [u8], entry: EntryNo, amount: u64) -> Altered
-    ensures { λ r. ⌜ (r ≡ alterOf way (now (file .entry)) (entry .0) amount .gives) × (now (file .exit) ≡ alterOf way (now (file .entry)) (entry .0) amount .leaves) ⌝ }
+// One entry's amount in an accepted file, of which the check is given.
+pub fn alter_accepted(way: Way, file: &mut [u8], k: u64, amount: u64, checked: Checked) -> Altered
+    requires { ⌜ checked ≡ checkedOf way (now file) ⌝ }
+    ensures { λ r. ⌜ (r ≡ alterOf way (now (file .entry)) k amount .gives) × (now (file .exit) ≡ alterOf way (now (file .entry)) k amount .leaves) ⌝ }
 {
-    let k = entry.0;
-    let checked = accept::check(way, file);
-    let answer = finding::asked(checked, k);
+    let answer = asking::asked(checked, k);
     match answer {
         Answer::Granted => { alter_there(way, file, k, amount, checked.debit, checked.credit) }
         Answer::Refused(r) => Altered {

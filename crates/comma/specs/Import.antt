@@ -12,7 +12,8 @@ use Rattle.records.specs.declared.Verdict.{Verdict}
 use Rattle.records.specs.Run.{checkedOf}
 use Rattle.view.specs.View.{View}
 use Rattle.view.specs.Table.{fileWide, headWide, batchWide, tableBytes, formed}
-use Rattle.view.specs.Outcome.{Outcome, refusal, demand, andThen, made, room}
+use Rattle.view.specs.Outcome.{Outcome, demand, andThen, made, room}
+use Rattle.layout.specs.Paper.{refusal}
 use Rattle.cells.specs.Grammar.{linesIn}
 use Rattle.comma.specs.Entries.{lineVerdict, entriesOfLines}
 

@@ -14,7 +14,8 @@ fn check_file(index: usize) {
     let mut buffer = io::large_buffer();
     let n = io::read_full(fd, &mut buffer);
     libc::close(fd);
-    lines::print_checked(ach::check(layout::Way::Plain, &buffer[..n]));
+    let mut rows = [0u64; 458];
+    lines::print_checked(ach::check(layout::Way::Plain, &buffer[..n], &mut rows));
 }
 
 fn main() {

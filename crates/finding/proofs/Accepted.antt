@@ -9,9 +9,9 @@ use lib.ListN.{length, take, drop, getD, length-map}
 use Rattle.text.proofs.RowLaws.{length-rows}
 use Rattle.view.specs.View.{View, entryRecord, batchControlRecord, recordsOf, viewOf}
 use Rattle.view.specs.Outcome.{entryAt, spotOf, entryNumber, batchControlNumber, fileControlNumber}
-use Rattle.view.proofs.AmendFile.{entry-record, batch-control-record}
-use Rattle.view.proofs.Bridge.{accepted-view}
-use Rattle.view.proofs.Own.{own-records}
+use Rattle.bridge.proofs.AmendFile.{entry-record, batch-control-record}
+use Rattle.bridge.proofs.Bridge.{accepted-view}
+use Rattle.bridge.proofs.Own.{own-records}
 use Rattle.finding.specs.declared.find.Places.{Places}
 use Rattle.layout.specs.declared.Way.{Way}
 use Rattle.layout.specs.Ways.{recordBytes}

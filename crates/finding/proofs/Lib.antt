@@ -2,4 +2,3 @@ pub mod Parts
 pub mod Walk
 pub mod Places
 pub mod Accepted
-pub mod Addenda

@@ -15,11 +15,11 @@ use Rattle.text.specs.Decimal.{pick}
 use Rattle.text.specs.Rows.{joined}
 use Rattle.view.specs.View.{Entry, Batch, View, fileRecord, entryRecord, addendumRecord, entryRecords, batchRecord, batchRecords, batchControlRecord, fileControlRecord, fillerRecord, fillersAfter, entriesOf, sumOver, recordsIn, bodyOf, recordsOf}
 use Rattle.view.specs.Outcome.{Spot, noEntry, spotFrom, spotOf, entryNumber, batchControlNumber, fileControlNumber}
-use Rattle.view.proofs.Lists.{by-lt, fold-append, sum-append}
-use Rattle.view.proofs.Tables.{entriesIn}
-use Rattle.view.proofs.Amend.{recordsFor}
-use Rattle.view.proofs.BridgeFields.{by-eq}
-use Rattle.view.proofs.BridgeSums.{entriesRecords}
+use Rattle.bridge.proofs.Lists.{by-lt, fold-append, sum-append}
+use Rattle.bridge.proofs.Tables.{entriesIn}
+use Rattle.bridge.proofs.Amend.{recordsFor}
+use Rattle.bridge.proofs.BridgeFields.{by-eq}
+use Rattle.bridge.proofs.BridgeSums.{entriesRecords}
 use Rattle.finding.specs.Find.{countOf, nthOf}
 
 -- ---- records by their first byte
@@ -121,7 +121,7 @@ parted k n (b ∷ bs) h =
 -- ---- the records, parted at the entry, at its batch's control and at the file's
 
 -- an entry has as many records as are counted for it
-length-entries : (es : List Entry) → length (entriesRecords es) ≡ sumOver recordsIn es
+pub length-entries : (es : List Entry) → length (entriesRecords es) ≡ sumOver recordsIn es
 unfolding sumOver
 length-entries [] = refl
 length-entries (e ∷ es) =

@@ -16,7 +16,7 @@ pub struct Places {
 }
 
 // Among the records from index `from` on that begin with this byte, the index of number `k`, from 0; the number of records if there is none.
-fn nth(way: Way, file: &[u8], from: usize, byte: u8, k: u64) -> usize
+pub fn nth(way: Way, file: &[u8], from: usize, byte: u8, k: u64) -> usize
     requires { ⌜ from ≤ length (now file) / recordBytes way ⌝ }
     ensures { λ r. ⌜ r ≡ from + nthOf byte k (drop from (columnsIn way (now (file .entry)))) ⌝ }
 {

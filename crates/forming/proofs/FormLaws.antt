@@ -13,7 +13,7 @@ use Rattle.text.specs.Widths.{Wide, total}
 use Rattle.text.proofs.DecimalLaws.{length-render}
 use Rattle.near.specs.declared.Sums.{Sums}
 use Rattle.rules.specs.Field.{blocks, hashOf}
-use Rattle.view.proofs.Lists.{set-field, wide-set, puts}
+use Rattle.bridge.proofs.Lists.{set-field, wide-set, puts}
 use Rattle.forming.specs.Forms.{fileFrom, batchFrom, entryFrom, addendumFrom, batchControlFrom, fileControlFrom}
 use Rattle.text.proofs.SetLaws.{drop-take}
 

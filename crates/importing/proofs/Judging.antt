@@ -24,12 +24,12 @@ use Rattle.tally.specs.Tally.{start, tally}
 use Rattle.records.specs.Run.{lineOf, bare, recordOf, refused, checkedOf}
 use Rattle.view.specs.View.{recordsOf, fillersAfter}
 use Rattle.view.specs.Table.{countOf, batchPart, entryPart, addendumPart, shaped, viewOfTable, formed}
-use Rattle.view.proofs.Tables.{table-shaped, shaped-sized}
-use Rattle.view.proofs.Bridge.{checked-many}
-use Rattle.view.proofs.Reading.{records-long}
-use Rattle.view.specs.Outcome.{refusal}
-use Rattle.view.proofs.Answers.{then-granted, demand-granted}
-use Rattle.view.proofs.Ways.{bareRun}
+use Rattle.bridge.proofs.Tables.{table-shaped, shaped-sized}
+use Rattle.bridge.proofs.Bridge.{checked-many}
+use Rattle.bridge.proofs.Reading.{records-long}
+use Rattle.layout.specs.Paper.{refusal}
+use Rattle.bridge.proofs.Answers.{then-granted, demand-granted}
+use Rattle.bridge.proofs.Ways.{bareRun}
 use Rattle.forming.specs.Sections.{countAt}
 use Rattle.forming.proofs.ShapeLaws.{number-at}
 use Rattle.walking.specs.declared.Cursor.{Cursor}
@@ -40,8 +40,8 @@ use Rattle.cells.specs.Grammar.{linesIn, lineSize}
 use Rattle.comma.specs.Entries.{rowOfLine}
 use Rattle.comma.specs.Import.{linesAnswer, bankIn, importView, importTable, rowsFit, importAnswer}
 use Rattle.listing.proofs.TableLaws.{file-at, batch-at, table-long, entry-at, import-sized, counts}
-use Rattle.importing.specs.Walk.{entryDue, formBy, pastBy, firstBy}
-use Rattle.importing.proofs.Along.{Made, Along, Ahead, form-here, past-is, line-here, number-few, along-on, along-first}
+use Rattle.following.specs.Walk.{entryDue, formBy, pastBy, firstBy}
+use Rattle.following.proofs.Along.{Made, Along, Ahead, form-here, past-is, line-here, number-few, along-on, along-first}
 
 pub due-left : (p : Place) (n : ℕ) → entryDue p n ≡ true → 0 < n
 due-left Place.Start n e = absurd (false≢true e)

@@ -1,5 +1,4 @@
 // The check of the file that the table will form.
-use crate::walk;
 use layout::Answer;
 use records::Verdict;
 use records::step;
@@ -19,7 +18,7 @@ pub(crate) fn judged(filerow: &[u8], batchrow: &[u8], lines: &[u8], count: usize
     ensures { λ r. ⌜ r ≡ checkedOf Way.Plain (formed Way.Plain (importTable (now (filerow .entry)) (now (batchrow .entry)) (now (lines .entry)))) .answer ⌝ }
 {
     let groups = groups::table();
-    let mut c = walk::opened(count);
+    let mut c = following::opened(count);
     let mut st = tally::start();
     let mut at = 0;
     let mut number = 1;
@@ -29,16 +28,16 @@ pub(crate) fn judged(filerow: &[u8], batchrow: &[u8], lines: &[u8], count: usize
         if order::complete(place, sums.records) {
             return Answer::Granted;
         }
-        let due = walk::entry_due(place, c.left);
-        let next = walk::next_line(lines, at, &batchrow[74..82], number, due);
+        let due = following::entry_due(place, c.left);
+        let next = following::next_line(lines, at, &batchrow[74..82], number, due);
         let row = next.row;
-        let rec = walk::form(filerow, batchrow, &row, c, st);
+        let rec = following::form(filerow, batchrow, &row, c, st);
         let tried = step::check(&groups, st, &rec);
         let verdict = tried.verdict;
         if let Verdict::Failed(fault, k) = verdict {
-            return passing::refused(fault, sums.records + 1, k);
+            return layout::refused(fault, sums.records + 1, k);
         }
-        c = walk::past(count, c, place);
+        c = following::past(count, c, place);
         let state = tried.state;
         st = state;
         at = next.at;

@@ -14,14 +14,6 @@ ghost use Rattle.cells.specs.Grammar.{linesIn};
 ghost use Rattle.comma.specs.Import.{importAnswer, importOf};
 
 mod judge;
-mod walk;
-
-// The next entry's row, and where the line behind its own begins and which number that has.
-struct Next {
-    row: [u8; 93],
-    at: usize,
-    number: u64,
-}
 
 // Whether the rows have their lengths, and the lines are few enough to be counted in six digits.
 fn rows_fit(filerow: &[u8], batchrow: &[u8], count: u64) -> bool
@@ -41,11 +33,11 @@ fn judge_list(filerow: &[u8], batchrow: &[u8], lines: &[u8]) -> Listing
     }
     let count = list.count;
     if !rows_fit(filerow, batchrow, count) {
-        return unlisted(passing::refused(Fault::Shape, 0, 0));
+        return unlisted(layout::refused(Fault::Shape, 0, 0));
     }
     // The file would have more than a million records.
     if 999_996 < count {
-        return unlisted(passing::refused(Fault::Length, 0, 0));
+        return unlisted(layout::refused(Fault::Length, 0, 0));
     }
     Listing {
         answer: judge::judged(filerow, batchrow, lines, count as usize),
@@ -76,7 +68,7 @@ pub fn import(filerow: &[u8], batchrow: &[u8], lines: &[u8], table: &mut [u8]) -
     let size = 204 + 93 * count;
     if (table.len() as u64) < size {
         return Made {
-            answer: passing::refused(Fault::Room, 0, 0),
+            answer: layout::refused(Fault::Room, 0, 0),
             length: 0,
         };
     }

@@ -1,7 +1,6 @@
-// The kinds of field that look at their own bytes alone, and the rules of single fields.
+// The kinds of field: what a field's own bytes must be.
 use layout::Fault;
 
-pub mod own;
 pub mod texts;
 
 // What a field's rules say of it: right, or the lowest number that applies.

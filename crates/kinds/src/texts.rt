@@ -8,13 +8,13 @@ ghost use Rattle.text.specs.Decimal.{every};
 ghost use Rattle.kinds.specs.Kinds.{blank, nines, fixed, allDigits, isText, leads, optionalText, mandatoryText, daysIn, realDay, date, nineFilled, blankFilled};
 
 // The first byte, 0 where there is none.
-pub(crate) fn first(p: &[u8]) -> u8
+pub fn first(p: &[u8]) -> u8
     ensures { λ r. ⌜ r ≡ getD (now (p .entry)) 0 0 ⌝ }
 {
     if 0 < p.len() { p[0] } else { 0 }
 }
 
-pub(crate) fn blank(p: &[u8]) -> bool
+pub fn blank(p: &[u8]) -> bool
     ensures { λ r. ⌜ r ≡ blank (now (p .entry)) ⌝ }
 {
     text::all_are(p, 32)
@@ -79,7 +79,7 @@ fn all_text(p: &[u8]) -> bool
     all
 }
 
-pub(crate) fn leads(p: &[u8]) -> bool
+pub fn leads(p: &[u8]) -> bool
     ensures { λ r. ⌜ r ≡ leads (now (p .entry)) ⌝ }
 {
     first(p) == 32

@@ -67,6 +67,8 @@ numberOf Fault.Comma = 29
 numberOf Fault.Cents = 30
 -- another field of a line too long for its columns
 numberOf Fault.Long = 32
+-- the first rows lent with an alteration aren't that file's list
+numberOf Fault.Rows = 34
 
 -- what the paper prints of an answer: number, record, field; all 0 where it is granted
 pub record Paper : Type 0 where
@@ -77,3 +79,7 @@ pub record Paper : Type 0 where
 abbrev pub paperOf : Answer → Paper
 paperOf Answer.Granted = record { number = 0; record-no = 0; field-no = 0 }
 paperOf (Answer.Refused r) = record { number = numberOf (r .fault); record-no = r .record .0; field-no = r .field }
+
+-- a refusal, by its cause and its place
+abbrev pub refusal : Fault → ℕ → ℕ → Answer
+refusal fault n k = Answer.Refused (record { fault = fault; «record» = record { 0 = n }; field = k })

@@ -4,7 +4,7 @@ ghost use mathlib.Core.Bool.{true};
 ghost use lib.ListN.{length, getD};
 ghost use Rattle.layout.specs.Fields.{fileHeader, batchHeader, entry, addendum, batchControl, fileControl, filler, past, other, rowsOf, noRow, firstField};
 ghost use Rattle.layout.specs.Fits.{rowFits};
-ghost use Rattle.layout.specs.Paper.{numberOf};
+ghost use Rattle.layout.specs.Paper.{numberOf, refusal};
 ghost use Rattle.layout.specs.Ways.{recordBytes};
 
 // How the records of a file stand: back to back, or each with CR LF behind it.
@@ -52,6 +52,7 @@ pub enum Fault {
     Comma,
     Cents,
     Long,
+    Rows,
 }
 
 pub struct Refusal {
@@ -594,6 +595,17 @@ fn other_row(k: usize) -> Row
     NO_ROW
 }
 
+// A refusal by its cause and its place.
+pub fn refused(fault: Fault, number: u64, k: u64) -> Answer
+    ensures { λ r. ⌜ r ≡ refusal fault number k ⌝ }
+{
+    Answer::Refused(Refusal {
+        fault,
+        record: RecordNo(number),
+        field: k,
+    })
+}
+
 // Row k, from 0, of the table of this record type.
 pub fn row_of(line: Line, k: usize) -> Row
     ensures { λ r. ⌜ (r ≡ getD (rowsOf line) k noRow) × (rowFits r ≡ true) ⌝ }
@@ -681,6 +693,7 @@ pub fn number_of(fault: Fault) -> u64
         Fault::Comma => 29,
         Fault::Cents => 30,
         Fault::Long => 32,
+        Fault::Rows => 34,
     }
 }
 

@@ -18,8 +18,8 @@ use Rattle.records.specs.declared.Verdict.{Verdict}
 use Rattle.view.specs.View.{Entry, View}
 use Rattle.view.specs.Table.{countWide, fileWide, headWide, batchWide, entryWide, batchRow, tableBytes, countOf, batchPart, entryPart, addendumPart, addendaDue}
 use Rattle.view.specs.Sized.{All, SizedEntry, Sized}
-use Rattle.view.proofs.Answers.{not-granted}
-use Rattle.view.proofs.Tables.{textsIn, rows-of-entries, entrySections, entry-part}
+use Rattle.bridge.proofs.Answers.{not-granted}
+use Rattle.bridge.proofs.Tables.{textsIn, rows-of-entries, entrySections, entry-part}
 use Rattle.cells.specs.Grammar.{sixTexts, linesIn}
 use Rattle.comma.specs.Entries.{lineVerdict, allColumns, restOfRow, rowOfLine, entriesOfLines}
 use Rattle.comma.specs.Import.{lineAnswer, linesAnswer, bankIn, importView, importTable}

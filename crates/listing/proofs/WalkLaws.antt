@@ -10,7 +10,7 @@ use Rattle.text.specs.Rows.{joined}
 use Rattle.layout.specs.declared.Answer.{Answer}
 use Rattle.layout.specs.declared.Fault.{Fault}
 use Rattle.records.specs.declared.Verdict.{Verdict}
-use Rattle.view.specs.Outcome.{refusal}
+use Rattle.layout.specs.Paper.{refusal}
 use Rattle.cells.specs.Grammar.{lineSize, linesIn}
 use Rattle.comma.specs.Entries.{lineVerdict, rowOfLine, entriesOfLines}
 use Rattle.comma.specs.Import.{lineAnswer, linesAnswer}

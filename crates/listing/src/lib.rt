@@ -29,7 +29,7 @@ pub fn listed(lines: &[u8]) -> Listing
         let verdict = line.verdict;
         if let Verdict::Failed(fault, k) = verdict {
             return Listing {
-                answer: passing::refused(fault, count + 1, k),
+                answer: layout::refused(fault, count + 1, k),
                 count: 0,
             };
         }

@@ -20,7 +20,7 @@ use Rattle.near.specs.Small.{Small}
 use Rattle.tally.specs.Tally.{nextSums}
 use Rattle.tally.proofs.TallyLaws.{records-next}
 use Rattle.view.specs.View.{closedBy}
-use Rattle.view.proofs.Ways.{closed-length}
+use Rattle.bridge.proofs.Ways.{closed-length}
 use Rattle.finding.proofs.Parts.{on}
 use Rattle.moving.specs.declared.Walk.{Walk}
 use Rattle.moving.specs.Walk.{opening, opened}

@@ -29,12 +29,12 @@ use Rattle.tally.proofs.TallyLaws.{records-next}
 use Rattle.accept.proofs.Laws.{header-long}
 use Rattle.view.specs.View.{Entry, closedBy, sumOver, recordsIn, fileRecord, fileControlRecord, fillersAfter, fillerRecord, recordsOf, entriesOf, bodyOf}
 use Rattle.view.specs.Table.{batchPart, entryPart, addendumPart, countOf, rowsIn, addendaDue, entriesDue, withAddenda, withEntries, viewOfTable, everyRow, shaped, formed}
-use Rattle.view.proofs.Lists.{nil-of-length}
-use Rattle.view.proofs.Tables.{entriesIn, shaped-sized}
-use Rattle.view.proofs.Reading.{records-long}
-use Rattle.view.proofs.BridgeSums.{batchesRecords, afterBody, file-control-same, file-sums, records-length, body-length, fillers-none}
-use Rattle.view.proofs.BridgeSound.{refused-not}
-use Rattle.view.proofs.Bridge.{checked-joined}
+use Rattle.bridge.proofs.Lists.{nil-of-length}
+use Rattle.bridge.proofs.Tables.{entriesIn, shaped-sized}
+use Rattle.bridge.proofs.Reading.{records-long}
+use Rattle.bridge.proofs.BridgeSums.{batchesRecords, afterBody, file-control-same, file-sums, records-length, body-length, fillers-none}
+use Rattle.bridge.proofs.BridgeSound.{refused-not}
+use Rattle.bridge.proofs.Bridge.{checked-joined}
 use Rattle.walking.specs.declared.Cursor.{Cursor}
 use Rattle.forming.specs.Sections.{sizeBy}
 use Rattle.walking.specs.Forming.{entriesAhead, textsAhead, Inside, formOf, pastOf, firstOf}
@@ -42,7 +42,7 @@ use Rattle.forming.proofs.ShapeLaws.{batch-rows-at, entry-rows-at, addendum-row
 use Rattle.walking.proofs.WalkLaws.{entriesBy, later, between, behindBatches, todoAt, todo, turn}
 use Rattle.layout.specs.declared.Way.{Way}
 use Rattle.layout.specs.Ways.{endOf, recordBytes}
-use Rattle.view.proofs.Ways.{bareRun}
+use Rattle.bridge.proofs.Ways.{bareRun}
 
 -- ---- what a right shape gives
 

@@ -2,8 +2,6 @@
 use forming::shape;
 use layout::Answer;
 use layout::Fault;
-use layout::RecordNo;
-use layout::Refusal;
 use layout::Way;
 use records::Verdict;
 use records::step;
@@ -20,19 +18,9 @@ ghost use Rattle.layout.specs.Ways.{endOf};
 ghost use Rattle.records.specs.Run.{checkedOf};
 ghost use Rattle.view.specs.View.{recordsOf};
 ghost use Rattle.view.specs.Table.{shaped, viewOfTable, formed};
-ghost use Rattle.view.specs.Outcome.{refusal};
+ghost use Rattle.layout.specs.Paper.{refusal};
 ghost use Rattle.forming.specs.Sections.{sizeBy};
 ghost use Rattle.walking.specs.Forming.{firstOf};
-
-pub fn refused(fault: Fault, number: u64, k: u64) -> Answer
-    ensures { λ r. ⌜ r ≡ refusal fault number k ⌝ }
-{
-    Answer::Refused(Refusal {
-        fault,
-        record: RecordNo(number),
-        field: k,
-    })
-}
 
 // The cursor before the first record.
 fn opened(table: &[u8]) -> Cursor
@@ -68,7 +56,7 @@ pub fn judged(table: &[u8]) -> Answer
         let tried = step::check(&groups, st, &rec);
         let verdict = tried.verdict;
         if let Verdict::Failed(fault, k) = verdict {
-            return refused(fault, sums.records + 1, k);
+            return layout::refused(fault, sums.records + 1, k);
         }
         c = walking::advance(table, c, place);
         let next = tried.state;

@@ -16,11 +16,12 @@ use Rattle.layout.specs.declared.Refusal.{Refusal}
 use Rattle.records.specs.Run.{checkedOf}
 use Rattle.view.specs.View.{entriesOf, recordsOf, viewOf}
 use Rattle.view.specs.Table.{addendaOf, tableOf}
-use Rattle.view.specs.Outcome.{refusal, readOf}
-use Rattle.view.proofs.Reading.{file-length}
-use Rattle.view.proofs.BridgeSums.{records-length}
-use Rattle.view.proofs.Bridge.{accepted-view}
-use Rattle.view.proofs.Own.{own-entries, own-records}
+use Rattle.view.specs.Outcome.{readOf}
+use Rattle.layout.specs.Paper.{refusal}
+use Rattle.bridge.proofs.Reading.{file-length}
+use Rattle.bridge.proofs.BridgeSums.{records-length}
+use Rattle.bridge.proofs.Bridge.{accepted-view}
+use Rattle.bridge.proofs.Own.{own-entries, own-records}
 use Rattle.putting.specs.Passes.{wholeBytes}
 use Rattle.putting.specs.Puts.{Puts, Room}
 use Rattle.reading.proofs.Sections.{file-table, table-length}

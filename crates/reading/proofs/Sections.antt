@@ -20,9 +20,9 @@ use Rattle.records.specs.Run.{rawRecords, columnsIn}
 use Rattle.view.specs.View.{Entry, Batch, View, addendumRecord, entryRecord, entryRecords, batchRecord, batchRecords, batchControlRecord, fileRecord, fileControlRecord, fillersAfter, fillerRecord, bodyOf, recordsOf, entriesOf}
 use Rattle.view.specs.Table.{countWide, fileWide, batchWide, entryWide, addendumWide, batchRow, addendaOf, tableBytes}
 use Rattle.view.specs.Sized.{All, SizedEntry, SizedBatch, Sized}
-use Rattle.view.proofs.Lists.{fold-append}
-use Rattle.view.proofs.Formed.{file-fields, batch-fields, entry-fields, addendum-fields, batch-control-fields, file-control-fields}
-use Rattle.view.proofs.Tables.{entriesIn, textsIn, entries-sized, rows-of-entries}
+use Rattle.bridge.proofs.Lists.{fold-append}
+use Rattle.bridge.proofs.Formed.{file-fields, batch-fields, entry-fields, addendum-fields, batch-control-fields, file-control-fields}
+use Rattle.bridge.proofs.Tables.{entriesIn, textsIn, entries-sized, rows-of-entries}
 use Rattle.putting.specs.Passes.{between, rowOf, rowBytes, batchBytes, headBytes, tailBytes, wholeBytes}
 
 abbrev entriesRecords : List Entry → List (List ℕ)

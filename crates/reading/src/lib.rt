@@ -2,8 +2,6 @@
 use layout::Answer;
 use layout::Fault;
 use layout::Made;
-use layout::RecordNo;
-use layout::Refusal;
 use layout::Way;
 ghost use mathlib.Core.Path.{_≡_};
 ghost use Rattle.view.specs.Outcome.{readOf};
@@ -23,11 +21,7 @@ pub fn read(way: Way, file: &[u8], table: &mut [u8]) -> Made
     let size = 109 + 95 * checked.batches + 93 * checked.entries + 80 * checked.addenda;
     if (table.len() as u64) < size {
         return Made {
-            answer: Answer::Refused(Refusal {
-                fault: Fault::Room,
-                record: RecordNo(0),
-                field: 0,
-            }),
+            answer: layout::refused(Fault::Room, 0, 0),
             length: 0,
         };
     }

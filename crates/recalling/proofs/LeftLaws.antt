@@ -11,7 +11,7 @@ use Rattle.text.specs.Rows.{joined}
 use Rattle.near.specs.declared.Sums.{Sums}
 use Rattle.tally.specs.Tally.{noSums, addRecord, addBatch, addEntry, addAddendum}
 use Rattle.view.specs.View.{Entry, Batch, View, fileRecord, batchRecord, entryRecord, addendumRecord, batchControlRecord, bodyOf, recordsOf}
-use Rattle.view.proofs.BridgeSums.{afterAddenda, afterEntry, afterEntries, afterBatch, entriesRecords, batchesRecords, control-same, file-sums, file-control-same}
+use Rattle.bridge.proofs.BridgeSums.{afterAddenda, afterEntry, afterEntries, afterBatch, entriesRecords, batchesRecords, control-same, file-sums, file-control-same}
 use Rattle.forming.specs.Forms.{batchControlFrom}
 use Rattle.walking.proofs.WalkLaws.{behindBatches}
 use Rattle.without.specs.Without.{named, entriesLeft, unlessEmpty, batchesLeft, without}
@@ -20,7 +20,7 @@ use Rattle.moving.specs.declared.Walk.{Walk}
 use Rattle.moving.specs.Walk.{gone, walk, firstWalk, opening, opened, entryGives, entryNext, entryKept, addendumGives, addendumNext, controlGives, controlNext, leftFrom}
 
 -- a record's first byte
-typed : (b : ℕ) (fs : List (List ℕ)) → getD (joined ((b ∷ []) ∷ fs)) 0 0 ≡ b
+pub typed : (b : ℕ) (fs : List (List ℕ)) → getD (joined ((b ∷ []) ∷ fs)) 0 0 ≡ b
 unfolding joined
 typed b fs = refl
 

@@ -1,4 +1,3 @@
 pub mod LeftLaws
-pub mod MarkLaws
-pub mod CloseLaws
+pub mod CountLaws
 pub mod OutLaws

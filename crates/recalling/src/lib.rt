@@ -1,62 +1,88 @@
 // Recalled payments taken out of a file in place: the entries to go are flagged, the records that stay close up from the front, and the
-// control records and the filler are formed anew from what stays.
+// control records and the filler are formed anew from what stays; then the list of the new file is put.
 use layout::Answer;
 use layout::Checked;
 use layout::Fault;
 use layout::Made;
 use layout::Way;
-ghost use Prim.Native.Nat.{ℕ};
+ghost use Prim.Native.Nat.{ℕ, _+_, _*_, _<_};
 ghost use mathlib.Core.Path.{_≡_};
-ghost use lib.ListN.{length, getD};
+ghost use lib.ListN.{length};
 ghost use Rattle.layout.specs.declared.Answer.{Answer};
-ghost use Rattle.records.specs.Run.{checkedOf};
-ghost use Rattle.view.specs.Outcome.{refusal};
-ghost use Rattle.without.specs.Without.{takeOutOf};
+ghost use Rattle.without.specs.Without.{named, takeOutAnswer, takeOutOf};
+ghost use Rattle.moving.specs.Walk.{gone};
+ghost use Rattle.recalling.specs.Ready.{AcceptedAs, Clear};
 
-mod close;
-mod marks;
+mod batches;
 
-// A refusal of the list, which has no record and no field.
-fn list_refused(fault: Fault) -> Made
-    ensures { λ r. ⌜ r ≡ record { answer = refusal fault 0 0; length = 0 } ⌝ }
+// How many records an accepted file has before its file control.
+fn records_before(checked: Checked) -> usize
+    requires { ⌜ 1 + 2 * checked .batches + checked .entries + checked .addenda < 1000000 ⌝ }
+    ensures { λ r. ⌜ r ≡ 1 + 2 * checked .batches + checked .entries + checked .addenda ⌝ }
 {
-    Made {
-        answer: finding::refused(fault, 0, 0),
-        length: 0,
-    }
+    (1 + 2 * checked.batches + checked.entries + checked.addenda) as usize
 }
 
-// The entries of the list taken out of an accepted file, with what its check gave. No flag is set yet.
+// What is answered to the list for an accepted file, with what its check gave and so many numbers lent for the rows. On a grant the flags
+// are those of the list's numbers.
+fn judge(
+    way: Way,
+    file: &[u8],
+    entries: &[u64],
+    room: usize,
+    flags: &mut [u8],
+    checked: Checked,
+) -> Answer
+    requires { ⌜ AcceptedAs way (now file) checked × Clear (now flags) ⌝ }
+    ensures { λ r. ⌜ (r ≡ takeOutAnswer way (now (file .entry)) (now (entries .entry)) room) × (length (now (flags .exit)) ≡ 1000000) × (r ≡ Answer.Granted → (k : ℕ) → gone (now (flags .exit)) k ≡ named k (now (entries .entry))) ⌝ }
+{
+    let count = checked.entries;
+    if !marking::mark(flags, entries, count) {
+        return layout::refused(Fault::NoEntry, 0, 0);
+    }
+    if !marking::any_left(flags, count as usize) {
+        return layout::refused(Fault::NoneLeft, 0, 0);
+    }
+    let left = batches::batches_left(way, file, flags, records_before(checked));
+    if room < 2 * left {
+        return layout::refused(Fault::Room, 0, 0);
+    }
+    Answer::Granted
+}
+
+// The entries of the list taken out of an accepted file. No flag is set yet.
 fn take_listed(
     way: Way,
     file: &mut [u8],
     entries: &[u64],
+    rows: &mut [u64],
     flags: &mut [u8],
     checked: Checked,
 ) -> Made
-    requires { ⌜ (checked ≡ checkedOf way (now file)) × (checked .answer ≡ Answer.Granted) × (length (now flags) ≡ 1000000) × ((k : ℕ) → getD (now flags) k 0 ≡ 0) ⌝ }
-    ensures { λ r. ⌜ (r ≡ takeOutOf way (now (file .entry)) (now (entries .entry)) .gives) × (now (file .exit) ≡ takeOutOf way (now (file .entry)) (now (entries .entry)) .leaves) × (length (now (file .exit)) ≡ length (now (file .entry))) ⌝ }
+    requires { ⌜ AcceptedAs way (now file) checked × Clear (now flags) ⌝ }
+    ensures { λ r. ⌜ (r ≡ takeOutOf way (now (file .entry)) (now (entries .entry)) (now (rows .entry)) .gives) × (now (file .exit) ≡ takeOutOf way (now (file .entry)) (now (entries .entry)) (now (rows .entry)) .leaves) × (now (rows .exit) ≡ takeOutOf way (now (file .entry)) (now (entries .entry)) (now (rows .entry)) .rows) × (length (now (file .exit)) ≡ length (now (file .entry))) × (length (now (rows .exit)) ≡ length (now (rows .entry))) ⌝ }
 {
-    let count = checked.entries;
-    if !marks::mark(flags, entries, count) {
-        return list_refused(Fault::NoEntry);
+    let answer = judge(way, file, entries, rows.len(), flags, checked);
+    if let Answer::Refused(refusal) = answer {
+        return Made {
+            answer: Answer::Refused(refusal),
+            length: 0,
+        };
     }
-    if !marks::any_left(flags, count as usize) {
-        return list_refused(Fault::NoneLeft);
-    }
-    let body = 1 + 2 * checked.batches + count + checked.addenda;
-    let size = close::shorten(way, file, flags, body as usize);
+    let size = closing::shorten(way, file, flags, records_before(checked));
+    filling::fill(way, &file[0..size], rows);
     Made {
         answer: Answer::Granted,
         length: size as u64,
     }
 }
 
-// Takes the entries of the list out of the file, which then ends earlier; blanks follow up to the end of the lent bytes. A refusal leaves
-// them as they are: the file's own comes first, then 25 for a number that is no entry's, then 27 where no entry would be left. A flag for
-// each entry number that a file can have stands on the stack: a million bytes.
-pub fn take_out(way: Way, file: &mut [u8], entries: &[u64]) -> Made
-    ensures { λ r. ⌜ (r ≡ takeOutOf way (now (file .entry)) (now (entries .entry)) .gives) × (now (file .exit) ≡ takeOutOf way (now (file .entry)) (now (entries .entry)) .leaves) ⌝ }
+// Takes the entries of the list out of the file, which then ends earlier; blanks follow up to the end of the lent bytes, and the list of the
+// new file goes to the front of the lent numbers. A refusal leaves both as they are: the file's own comes first, then 25 for a number that is
+// no entry's, 27 where no entry would be left, and 23 where the batches left have no room. A flag for each entry number that a file can have
+// stands on the stack: a million bytes.
+pub fn take_out(way: Way, file: &mut [u8], entries: &[u64], rows: &mut [u64]) -> Made
+    ensures { λ r. ⌜ (r ≡ takeOutOf way (now (file .entry)) (now (entries .entry)) (now (rows .entry)) .gives) × (now (file .exit) ≡ takeOutOf way (now (file .entry)) (now (entries .entry)) (now (rows .entry)) .leaves) × (now (rows .exit) ≡ takeOutOf way (now (file .entry)) (now (entries .entry)) (now (rows .entry)) .rows) ⌝ }
 {
     let checked = accept::check(way, file);
     let answer = checked.answer;
@@ -67,5 +93,5 @@ pub fn take_out(way: Way, file: &mut [u8], entries: &[u64]) -> Made
         };
     }
     let mut flags = [0u8; 1_000_000];
-    take_listed(way, file, entries, &mut flags, checked)
+    take_listed(way, file, entries, rows, &mut flags, checked)
 }

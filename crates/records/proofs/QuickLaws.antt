@@ -8,7 +8,8 @@ use Rattle.text.proofs.DecimalLaws.{and-both}
 use Rattle.layout.specs.Fields.{entry, addendum, part}
 use Rattle.kinds.specs.declared.Mark.{Mark}
 use Rattle.codes.specs.Codes.{codeOf}
-use Rattle.kinds.specs.Kinds.{fixed, optionalText, mandatoryText, bank, account}
+use Rattle.kinds.specs.Kinds.{fixed, optionalText, mandatoryText}
+use Rattle.own.specs.Rules.{bank, account}
 use Rattle.near.specs.declared.Sums.{Sums}
 use Rattle.near.specs.Near.{entryCode, codeRule, checkDigitRule, amountRule, flagRule, traceRule, entryTraceRule}
 use Rattle.shortcut.specs.Quick.{isRight, entryFront, entryBack, addendumAll}

@@ -11,7 +11,8 @@ use Rattle.layout.specs.declared.Kind.{Kind}
 use Rattle.layout.specs.declared.Sum.{Sum}
 use Rattle.layout.specs.declared.Row.{Row}
 use Rattle.kinds.specs.declared.Mark.{Mark}
-use Rattle.kinds.specs.Kinds.{need, nineFilled, blankFilled, fixed, allDigits, optionalText, mandatoryText, date, ownRule}
+use Rattle.kinds.specs.Kinds.{need, nineFilled, blankFilled, fixed, allDigits, optionalText, mandatoryText, date}
+use Rattle.own.specs.Rules.{ownRule}
 use Rattle.near.specs.declared.Sums.{Sums}
 use Rattle.near.specs.Near.{nearRule}
 

@@ -1,6 +1,5 @@
 // The single-field check: a row of the record type's table against the record.
 use kinds::Mark;
-use kinds::own;
 use kinds::texts;
 use layout::Fault;
 use layout::Kind;

@@ -1,7 +1,6 @@
 // Entries and addenda are nearly all of a large file: their fields tested in a straight line, with no table and no branch between them.
 // The walk along the table names the refusal where one of these says no.
 use kinds::Mark;
-use kinds::own;
 use kinds::texts;
 use near::Numbers;
 use near::Sums;
@@ -10,7 +9,7 @@ ghost use mathlib.Core.Bool.{_&&_};
 ghost use lib.ListN.{length};
 ghost use Rattle.layout.specs.Fields.{entry, part};
 ghost use Rattle.groups.specs.Groups.{groupSums};
-ghost use Rattle.kinds.specs.Kinds.{bank};
+ghost use Rattle.own.specs.Rules.{bank};
 ghost use Rattle.near.specs.Near.{entryBank, traceNumber, checkDigitRule, traceRule, saidOf};
 ghost use Rattle.shortcut.specs.Quick.{isRight, entryFront, entryBack, addendumAll};
 

@@ -9,7 +9,7 @@ use lib.IntN.{ℤ, pos, negsuc, _-ℤ_}
 use mir.Syntax.{w64}
 use mir.Val.{SFits, toZ, ofZ}
 use mir.ValLaws.{toZ-pos, toZ-ofZ}
-use Rattle.view.proofs.Lists.{by-lt}
+use Rattle.bridge.proofs.Lists.{by-lt}
 
 -- below this both the numbers and their difference fit
 abbrev pub small : ℕ

@@ -11,7 +11,8 @@ use Rattle.layout.specs.declared.Answer.{Answer}
 use Rattle.layout.specs.declared.Altered.{Altered}
 use Rattle.layout.specs.Fields.{noRow, batchControl, fileControl}
 use Rattle.rules.specs.Field.{totalLimit}
-use Rattle.view.specs.Outcome.{Outcome, refusal, demand, altered}
+use Rattle.view.specs.Outcome.{Outcome, demand, altered}
+use Rattle.layout.specs.Paper.{refusal}
 use Rattle.finding.specs.declared.find.Places.{Places}
 use Rattle.sides.specs.declared.Side.{Side}
 use Rattle.layout.specs.declared.Way.{Way}

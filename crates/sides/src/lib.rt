@@ -84,10 +84,10 @@ fn limits(places: Places, side: Side, batch: u64, whole: u64) -> Answer
     ensures { λ r. ⌜ r ≡ sideAnswer places side batch whole ⌝ }
 {
     if LIMIT < batch {
-        return finding::refused(Fault::Limit, places.control as u64 + 1, side.batchfield);
+        return layout::refused(Fault::Limit, places.control as u64 + 1, side.batchfield);
     }
     if LIMIT < whole {
-        return finding::refused(Fault::Limit, places.last as u64 + 1, side.filefield);
+        return layout::refused(Fault::Limit, places.last as u64 + 1, side.filefield);
     }
     Answer::Granted
 }

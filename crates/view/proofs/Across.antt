@@ -3,7 +3,7 @@
 use Prim.Native.Nat.{ℕ, _+_}
 use mathlib.Core.Path.{_≡_, refl}
 use mathlib.Core.Bool.{true, false}
-use mathlib.Core.List.{List, [], _∷_, _++_}
+use mathlib.Core.List.{List, [], _∷_, _++_, foldr}
 use lib.IntN.{pos}
 use lib.ListN.{length, replicate}
 use Rattle.text.specs.Decimal.{every, valueFrom, render}
@@ -11,11 +11,12 @@ use Rattle.text.specs.Same.{sameBytes}
 use Rattle.text.specs.Rows.{rows, joined}
 use Rattle.layout.specs.declared.Answer.{Answer}
 use Rattle.groups.specs.Groups.{weighed, checkDigit}
-use Rattle.kinds.specs.Kinds.{unbroken}
+use Rattle.own.specs.Rules.{unbroken}
 use Rattle.records.specs.Run.{checkedOf, runFrom, fieldsFrom}
-use Rattle.view.specs.View.{Entry, Batch, View, sumOver, bodyOf, recordsOf, fileOf, viewOf}
+use Rattle.view.specs.View.{Entry, Batch, View, sumOver, entriesOf, bodyOf, recordsOf, fileOf, viewOf}
 use Rattle.view.specs.Table.{withEntries, withAddenda, everyRow, shaped, tableBytes, viewOfTable}
 use Rattle.view.specs.Outcome.{spotFrom, amendEntry, amendBatch, within, alteredTable, alterOf}
+use Rattle.view.specs.Keeps.{codes, countBy, centsBy}
 use Rattle.view.specs.Runs.{alterRun, tableRun}
 use Rattle.layout.specs.declared.Way.{Way}
 
@@ -81,8 +82,11 @@ pub record Across : Type 0 where
         credit = 1140;
         bycode = 2 ∷ 1100 ∷ replicate 4 0 ++ (1 ∷ 250 ∷ replicate 4 0 ++ (1 ∷ 40 ∷ replicate 10 0));
       }
-  -- eleven records and nine fillers
-  pub records : (length (bodyOf (two 100 1000)) + 1 ≡ 11) × (length (recordsOf (two 100 1000)) ≡ 20)
+  -- its own entries say the rows by code
+  pub by-code : foldr (λ code rows. countBy code (entriesOf (two 100 1000)) ∷ centsBy code (entriesOf (two 100 1000)) ∷ rows) [] codes
+      ≡ 2 ∷ 1100 ∷ replicate 4 0 ++ (1 ∷ 250 ∷ replicate 4 0 ++ (1 ∷ 40 ∷ replicate 10 0))
+  -- eleven records and nine fillers, in the second way each with its line end
+  pub records : (length (bodyOf (two 100 1000)) + 1 ≡ 11) × (length (recordsOf (two 100 1000)) ≡ 20) × (length (fileOf Way.Lined (two 100 1000)) ≡ 1920)
   -- file and table each say it again, and each is made of the other
   pub read : viewOf Way.Plain (fileOf Way.Plain (two 100 1000)) ≡ two 100 1000
   pub table : viewOfTable (tableBytes (two 100 1000)) ≡ two 100 1000
@@ -103,7 +107,8 @@ unfolding runFrom fieldsFrom every valueFrom sameBytes rows weighed unbroken joi
 across =
     record {
       accepted = refl;
-      records = (refl, refl);
+      by-code = refl;
+      records = (refl, refl, refl);
       read = refl;
       table = refl;
       tables = (refl, refl);

@@ -12,7 +12,7 @@ use Rattle.layout.specs.declared.Answer.{Answer}
 use Rattle.layout.specs.declared.Way.{Way}
 use Rattle.layout.specs.Paper.{Paper, paperOf}
 use Rattle.groups.specs.Groups.{weighed}
-use Rattle.kinds.specs.Kinds.{unbroken}
+use Rattle.own.specs.Rules.{unbroken}
 use Rattle.records.specs.Run.{checkedOf, runFrom, fieldsFrom}
 use Rattle.view.specs.View.{Entry, View, sumOver, fileOf}
 use Rattle.view.specs.Outcome.{spotFrom, amendEntry, amendBatch, alterOf}

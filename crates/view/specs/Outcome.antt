@@ -14,6 +14,7 @@ use Rattle.layout.specs.declared.Altered.{Altered}
 use Rattle.layout.specs.declared.Row.{Row}
 use Rattle.layout.specs.declared.Way.{Way}
 use Rattle.layout.specs.Fields.{noRow, entry, addendum}
+use Rattle.layout.specs.Paper.{refusal}
 use Rattle.layout.specs.Ways.{recordBytes}
 use Rattle.codes.specs.declared.Code.{Code}
 use Rattle.codes.specs.Codes.{codeOf, carries}
@@ -26,9 +27,6 @@ use Rattle.view.specs.Table.{tableBytes, shaped, formed, tableOf, countW
 pub record Outcome (A : Type 0) : Type 0 where
   pub gives : A
   pub leaves : List ℕ
-
-abbrev pub refusal : Fault → ℕ → ℕ → Answer
-refusal fault n k = Answer.Refused (record { fault = fault; «record» = record { 0 = n }; field = k })
 
 -- a test, its refusal if it fails, and the tests after it
 abbrev pub demand : Bool → Answer → Answer → Answer

@@ -25,10 +25,10 @@ use Rattle.tally.specs.Tally.{addRecord, addBatch, addEntry, addAddendum, tally
 use Rattle.records.specs.Run.{fieldsFrom, lineOf, stepped, bare, recordOf}
 use Rattle.view.specs.View.{Entry, Batch, sumOver, batchControlRecord, fillersAfter, fillerRecord}
 use Rattle.view.specs.Table.{addendaDue, entriesDue, withAddenda, withEntries}
-use Rattle.view.proofs.Formed.{file-fields, batch-fields, addendum-fields}
-use Rattle.view.proofs.Lists.{by-lt}
-use Rattle.view.proofs.BridgeSums.{afterAddenda, afterEntry, afterEntries, afterBatch, afterBatches, entriesRecords, batchesRecords, control-same, fillers-more}
-use Rattle.view.proofs.BridgeWalk.{at}
+use Rattle.bridge.proofs.Formed.{file-fields, batch-fields, addendum-fields}
+use Rattle.bridge.proofs.Lists.{by-lt}
+use Rattle.bridge.proofs.BridgeSums.{afterAddenda, afterEntry, afterEntries, afterBatch, afterBatches, entriesRecords, batchesRecords, control-same, fillers-more}
+use Rattle.bridge.proofs.BridgeWalk.{at}
 use Rattle.walking.specs.declared.Cursor.{Cursor}
 use Rattle.forming.specs.Sections.{countAt}
 use Rattle.forming.specs.Forms.{batchControlFrom, fileControlFrom, fileFrom, batchFrom, entryFrom, addendumFrom}

@@ -15,10 +15,10 @@ use Rattle.layout.specs.Ways.{recordBytes}
 use Rattle.view.specs.View.{Entry, Batch, View, sumOver, recordsIn, entriesOf, bodyOf, fillersAfter, recordsOf, fileOf}
 use Rattle.view.specs.Outcome.{exists}
 use Rattle.view.specs.Sized.{All, SizedEntry, SizedBatch, Sized}
-use Rattle.view.proofs.Tables.{entriesIn, textsIn}
-use Rattle.view.proofs.Reading.{file-length}
-use Rattle.view.proofs.BridgeFields.{by-eq}
-use Rattle.view.proofs.BridgeSums.{count-records, records-length, body-length}
+use Rattle.bridge.proofs.Tables.{entriesIn, textsIn}
+use Rattle.bridge.proofs.Reading.{file-length}
+use Rattle.bridge.proofs.BridgeFields.{by-eq}
+use Rattle.bridge.proofs.BridgeSums.{count-records, records-length, body-length}
 use Rattle.without.specs.Without.{named, entriesLeft, unlessEmpty, batchesLeft, without, allExist}
 use Rattle.without.specs.Gone.{entriesGone, goneOf, distinct}
 

@@ -22,9 +22,9 @@ use Rattle.rules.specs.Field.{fieldOf}
 use Rattle.view.specs.View.{Entry, Batch, View, recordsIn, debitOf, creditOf, entryRecord, batchRecord, entriesOf}
 use Rattle.view.specs.Sized.{All}
 use Rattle.view.specs.Keeps.{Right, seen, Within, EntryKeeps, EntriesKeep, BatchKeeps, BatchesKeep, Keeps}
-use Rattle.view.proofs.Lists.{all-append, all-take, all-drop}
-use Rattle.view.proofs.Tables.{entriesIn}
-use Rattle.view.proofs.BridgeFields.{need-right}
+use Rattle.bridge.proofs.Lists.{all-append, all-take, all-drop}
+use Rattle.bridge.proofs.Tables.{entriesIn}
+use Rattle.bridge.proofs.BridgeFields.{need-right}
 use Rattle.without.specs.Without.{entriesLeft, batchesLeft, without}
 use Rattle.without.proofs.Left.{by-named, unless-empty, sum-less, entries-without, records-fewer}
 

@@ -4,9 +4,9 @@ use mathlib.Core.Path.{_≡_, refl, sym, ap, ap₂, subst, _∙_}
 use mathlib.Core.Logic.{_↔_}
 use mathlib.Core.Bool.{Bool, true, false}
 use mathlib.Core.List.{List, [], _∷_, _++_, map, append-nil}
-use Prim.Native.Nat.{ℕ, _+_, _-_, _≤_}
+use Prim.Native.Nat.{ℕ, _+_, _-_, _*_, _≤_, _<_}
 use native.Mathlib.Omega.{arith}
-use borrow.Author.Tests.{leb-true, le-leb, eq-eqb}
+use borrow.Author.Tests.{leb-true, le-leb, lt-leb, eq-eqb}
 use lib.Dec.{leb}
 use lib.ListN.{length, take, drop, replicate, length-append, length-replicate}
 use lib.Seq.{take-append-seam, drop-append-seam}
@@ -21,15 +21,18 @@ use Rattle.near.specs.Near.{batchNumber}
 use Rattle.records.specs.Run.{checkedOf}
 use Rattle.view.specs.View.{Entry, Batch, View, batchRecord, entriesOf, fileOf, viewOf}
 use Rattle.view.specs.Table.{countWide, batchRow, tableBytes, viewOfTable, formed, tableOf}
-use Rattle.view.specs.Outcome.{Outcome, refusal, demand, andThen, exists}
+use Rattle.view.specs.Outcome.{Outcome, demand, andThen, exists}
+use Rattle.layout.specs.Paper.{refusal}
 use Rattle.view.specs.Sized.{Sized}
 use Rattle.view.specs.Keeps.{BatchesKeep, Keeps}
-use Rattle.view.proofs.Tables.{entriesIn, textsIn, view-of-table, formed-of-table, table-of-file}
-use Rattle.view.proofs.Reading.{view-of-file}
-use Rattle.view.proofs.Bridge.{granted, accepted-view}
-use Rattle.view.proofs.BridgeFields.{by-eq, never}
-use Rattle.view.proofs.Alter.{same-test}
-use Rattle.view.proofs.Answers.{not-granted, demand-granted, then-granted, then-refused}
+use Rattle.bridge.proofs.Tables.{entriesIn, textsIn, view-of-table, formed-of-table, table-of-file}
+use Rattle.bridge.proofs.Reading.{view-of-file}
+use Rattle.bridge.proofs.Bridge.{granted, accepted-view}
+use Rattle.bridge.proofs.BridgeFields.{by-eq, never}
+use Rattle.bridge.proofs.Alter.{same-test}
+use Rattle.bridge.proofs.Answers.{not-granted, demand-granted, then-granted, then-refused}
+use Rattle.funds.specs.Funds.{rowsOf, inFront, enoughRows}
+use Rattle.funds.specs.Outcome.{Listed, relisted}
 use Rattle.without.specs.Without.{named, entriesLeft, unlessEmpty, batchesLeft, without, tableWithout, allExist, takeOutAnswer, shortened, takeOutOf}
 use Rattle.without.proofs.Left.{entries-without, bytes-fewer, without-sized}
 use Rattle.without.proofs.LeftKeeps.{without-keeps}
@@ -116,16 +119,28 @@ exist-named v (n ∷ ns) f =
     (exist-named v ns (λ k h. f k (by-eq n k (λ e. rw (eq-eqb n k e)) (λ d. rw (d, h)))))
 
 -- so the same entries named are the same outcome, whatever stands how often and where
-pub same-outcome : (way : Way) (f ns ms : List ℕ) → ((k : ℕ) → named k ns ≡ named k ms) → takeOutOf way f ns ≡ takeOutOf way f ms
-same-outcome way f ns ms same =
+pub same-outcome : (way : Way) (f ns ms held : List ℕ) → ((k : ℕ) → named k ns ≡ named k ms) → takeOutOf way f ns held ≡ takeOutOf way f ms held
+same-outcome way f ns ms held same =
     let v = viewOf way f in
     let all : allExist v ns ≡ allExist v ms =
     same-test (allExist v ns) (allExist v ms)
     (λ a. exist-named v ms (λ k h. named-exist v ns a k (same k ∙ h)))
     (λ a. exist-named v ns (λ k h. named-exist v ms a k (sym (same k) ∙ h))) in
-    let outcome : Bool → View → Outcome Made = λ exist left.
-    shortened (andThen (checkedOf way f .answer) (demand exist (refusal Fault.NoEntry 0 0) (demand (leb 1 (length (entriesOf left))) (refusal Fault.NoneLeft 0 0) Answer.Granted))) (fileOf way left) f in
+    let answer : Bool → View → Answer = λ exist left.
+    andThen (checkedOf way f .answer)
+    (demand exist (refusal Fault.NoEntry 0 0)
+    (demand (leb 1 (length (entriesOf left))) (refusal Fault.NoneLeft 0 0) (demand (enoughRows left (length held)) (refusal Fault.Room 0 0) Answer.Granted))) in
+    let outcome : Bool → View → Listed Made = λ exist left.
+    let done = shortened (answer exist left) (fileOf way left) f in
+    record { gives = done .gives; leaves = done .leaves; rows = relisted (answer exist left) left held } in
     ap₂ outcome all (without-same ns ms same v)
+
+-- "what the list held before is not read"
+pub list-unread : (way : Way) (f ns held other : List ℕ) → length held ≡ length other
+    → (takeOutOf way f ns held .gives ≡ takeOutOf way f ns other .gives) × (takeOutOf way f ns held .leaves ≡ takeOutOf way f ns other .leaves)
+list-unread way f ns held other e =
+    let same = ap (λ n. shortened (takeOutAnswer way f ns n) (fileOf way (without (viewOf way f) ns)) f) e in
+    (ap (λ o. o .gives) same, ap (λ o. o .leaves) same)
 
 -- ---- the empty list
 
@@ -155,61 +170,76 @@ answered : (x : Answer) (result f : List ℕ) → shortened x result f .gives .a
 answered Answer.Granted result f = refl
 answered (Answer.Refused r) result f = refl
 
--- an accepted file, a list of entries that there are, and an entry left
-pub record Removable (way : Way) (f ns : List ℕ) : Type 0 where
+-- an accepted file, a list of entries that there are, an entry left, and room for a row of each batch left
+pub record Removable (way : Way) (f ns held : List ℕ) : Type 0 where
   pub accepted : checkedOf way f .answer ≡ Answer.Granted
   pub numbers : allExist (viewOf way f) ns ≡ true
   pub left : 1 ≤ length (entriesOf (without (viewOf way f) ns))
+  pub room : 2 * length (without (viewOf way f) ns .batches) ≤ length held
 
-pub take-out-exactly : (way : Way) (f ns : List ℕ) → (takeOutOf way f ns .gives .answer ≡ Answer.Granted) ↔ Removable way f ns
-take-out-exactly way f ns =
+pub take-out-exactly : (way : Way) (f ns held : List ℕ) → (takeOutOf way f ns held .gives .answer ≡ Answer.Granted) ↔ Removable way f ns held
+take-out-exactly way f ns held =
     let v = viewOf way f in
     let left = without v ns in
     let some = leb 1 (length (entriesOf left)) in
-    let rest = demand some (refusal Fault.NoneLeft 0 0) Answer.Granted in
+    let needed = 2 * length (left .batches) in
+    let last = demand (enoughRows left (length held)) (refusal Fault.Room 0 0) Answer.Granted in
+    let rest = demand some (refusal Fault.NoneLeft 0 0) last in
     let asked = demand (allExist v ns) (refusal Fault.NoEntry 0 0) rest in
-    let told = answered (takeOutAnswer way f ns) (fileOf way left) f in (
+    let told = answered (takeOutAnswer way f ns (length held)) (fileOf way left) f in (
       λ e.
           let a = then-granted (checkedOf way f .answer) asked (sym told ∙ e) in
           let b = demand-granted (allExist v ns) _ rest (a .1) in
-          let c = demand-granted some _ Answer.Granted (b .1) in
-          record { accepted = a .0; numbers = b .0; left = leb-true 1 (length (entriesOf left)) (c .0) },
-      λ r. told ∙ rw (r .accepted, r .numbers, le-leb 1 (length (entriesOf left)) (r .left)),
+          let c = demand-granted some _ last (b .1) in
+          let d = demand-granted (enoughRows left (length held)) _ Answer.Granted (c .1) in
+          record { accepted = a .0; numbers = b .0; left = leb-true 1 (length (entriesOf left)) (c .0); room = leb-true needed (length held) (d .0) },
+      λ r. told ∙ rw (r .accepted, r .numbers, le-leb 1 (length (entriesOf left)) (r .left), le-leb needed (length held) (r .room)),
     )
 
 -- ---- why it is refused
 
--- "the file's own",
-pub refused-own : (way : Way) (f ns : List ℕ) (x : Refusal) → checkedOf way f .answer ≡ Answer.Refused x → takeOutOf way f ns .gives .answer ≡ Answer.Refused x
-refused-own way f ns x e = answered (takeOutAnswer way f ns) (fileOf way (without (viewOf way f) ns)) f ∙ then-refused (checkedOf way f .answer) _ x e
+module _ (way : Way) (f ns held : List ℕ) where
+  pub told : takeOutOf way f ns held .gives .answer ≡ takeOutAnswer way f ns (length held)
+  told = answered (takeOutAnswer way f ns (length held)) (fileOf way (without (viewOf way f) ns)) f
 
--- "25 for the first bad number in the list": for one that is bad, wherever it stands
-pub refused-number : (way : Way) (f ns : List ℕ) (k : ℕ) → checkedOf way f .answer ≡ Answer.Granted → named k ns ≡ true → exists (viewOf way f) k ≡ false
-    → takeOutOf way f ns .gives .answer ≡ refusal Fault.NoEntry 0 0
-refused-number way f ns k g h bad = answered (takeOutAnswer way f ns) (fileOf way (without (viewOf way f) ns)) f ∙ rw (g, go (allExist (viewOf way f) ns) refl)
-  where
-    go : (b : Bool) → allExist (viewOf way f) ns ≡ b → allExist (viewOf way f) ns ≡ false
-    go true e = never (sym bad ∙ named-exist (viewOf way f) ns e k h)
-    go false e = e
+  -- "the file's own",
+  pub refused-own : (x : Refusal) → checkedOf way f .answer ≡ Answer.Refused x → takeOutOf way f ns held .gives .answer ≡ Answer.Refused x
+  refused-own x e = told ∙ then-refused (checkedOf way f .answer) _ x e
 
--- "27 if no entry would be left"
-pub refused-none : (way : Way) (f ns : List ℕ) → checkedOf way f .answer ≡ Answer.Granted → allExist (viewOf way f) ns ≡ true → length (entriesOf (without (viewOf way f) ns)) ≡ 0
-    → takeOutOf way f ns .gives .answer ≡ refusal Fault.NoneLeft 0 0
-refused-none way f ns g a z = answered (takeOutAnswer way f ns) (fileOf way (without (viewOf way f) ns)) f ∙ rw (g, a, z)
+  module _ (g : checkedOf way f .answer ≡ Answer.Granted) where
+    -- "25 for the first bad number in the list": for one that is bad, wherever it stands
+    pub refused-number : (k : ℕ) → named k ns ≡ true → exists (viewOf way f) k ≡ false → takeOutOf way f ns held .gives .answer ≡ refusal Fault.NoEntry 0 0
+    refused-number k h bad = told ∙ rw (g, go (allExist (viewOf way f) ns) refl)
+      where
+        go : (b : Bool) → allExist (viewOf way f) ns ≡ b → allExist (viewOf way f) ns ≡ false
+        go true e = never (sym bad ∙ named-exist (viewOf way f) ns e k h)
+        go false e = e
+
+    module _ (a : allExist (viewOf way f) ns ≡ true) where
+      -- "27 if no entry would be left"
+      pub refused-none : length (entriesOf (without (viewOf way f) ns)) ≡ 0 → takeOutOf way f ns held .gives .answer ≡ refusal Fault.NoneLeft 0 0
+      refused-none z = told ∙ rw (g, a, z)
+
+      -- "23, last"
+      pub refused-room : 1 ≤ length (entriesOf (without (viewOf way f) ns)) → length held < 2 * length (without (viewOf way f) ns .batches)
+          → takeOutOf way f ns held .gives .answer ≡ refusal Fault.Room 0 0
+      refused-room some short =
+          told ∙ rw (g, a, le-leb 1 (length (entriesOf (without (viewOf way f) ns))) some, lt-leb (2 * length (without (viewOf way f) ns .batches)) (length held) short)
 
 -- ---- what it leaves
 
--- "every refusal leaves lent memory untouched", and its length is 0
-pub take-out-refused : (way : Way) (f ns : List ℕ) (r : Refusal) → takeOutOf way f ns .gives .answer ≡ Answer.Refused r
-    → (takeOutOf way f ns .leaves ≡ f) × (takeOutOf way f ns .gives .length ≡ 0)
-take-out-refused way f ns r e = go (takeOutAnswer way f ns) e
+-- "every refusal leaves lent memory untouched", the list too, and its length is 0
+pub take-out-refused : (way : Way) (f ns held : List ℕ) (r : Refusal) → takeOutOf way f ns held .gives .answer ≡ Answer.Refused r
+    → (takeOutOf way f ns held .leaves ≡ f) × (takeOutOf way f ns held .rows ≡ held) × (takeOutOf way f ns held .gives .length ≡ 0)
+take-out-refused way f ns held r e = go (takeOutAnswer way f ns (length held)) e
   where
-    result : List ℕ
-    result = fileOf way (without (viewOf way f) ns)
+    left : View
+    left = without (viewOf way f) ns
 
-    go : (x : Answer) → shortened x result f .gives .answer ≡ Answer.Refused r → (shortened x result f .leaves ≡ f) × (shortened x result f .gives .length ≡ 0)
+    go : (x : Answer) → shortened x (fileOf way left) f .gives .answer ≡ Answer.Refused r
+        → (shortened x (fileOf way left) f .leaves ≡ f) × (relisted x left held ≡ held) × (shortened x (fileOf way left) f .gives .length ≡ 0)
     go Answer.Granted e = not-granted (sym e)
-    go (Answer.Refused p) e = (refl, refl)
+    go (Answer.Refused p) e = (refl, refl, refl)
 
 -- a grant gives the new length, and leaves the new file with blanks behind it
 granted-leaves : (x : Answer) (result f : List ℕ) → shortened x result f .gives .answer ≡ Answer.Granted
@@ -217,50 +247,55 @@ granted-leaves : (x : Answer) (result f : List ℕ) → shortened x result f .gi
 granted-leaves Answer.Granted result f e = (refl, refl)
 granted-leaves (Answer.Refused r) result f e = not-granted e
 
-module _ (way : Way) (f ns : List ℕ) (e : takeOutOf way f ns .gives .answer ≡ Answer.Granted) where
-  may : Removable way f ns
-  may = take-out-exactly way f ns .0 e
+module _ (way : Way) (f ns held : List ℕ) (e : takeOutOf way f ns held .gives .answer ≡ Answer.Granted) where
+  may : Removable way f ns held
+  may = take-out-exactly way f ns held .0 e
 
   abbrev new : List ℕ
   new = fileOf way (without (viewOf way f) ns)
 
-  gives : takeOutOf way f ns .gives .length ≡ length new
-  gives = granted-leaves (takeOutAnswer way f ns) new f e .0
+  gives : takeOutOf way f ns held .gives .length ≡ length new
+  gives = granted-leaves (takeOutAnswer way f ns (length held)) new f e .0
 
-  leaves : takeOutOf way f ns .leaves ≡ new ++ replicate (length f - length new) 32
-  leaves = granted-leaves (takeOutAnswer way f ns) new f e .1
+  leaves : takeOutOf way f ns held .leaves ≡ new ++ replicate (length f - length new) 32
+  leaves = granted-leaves (takeOutAnswer way f ns (length held)) new f e .1
 
   -- in front, as long as is given, "the file written from the table without those rows"
-  pub take-out-written : take (takeOutOf way f ns .gives .length) (takeOutOf way f ns .leaves) ≡ formed way (tableWithout (tableOf way f) ns)
+  pub take-out-written : take (takeOutOf way f ns held .gives .length) (takeOutOf way f ns held .leaves) ≡ formed way (tableWithout (tableOf way f) ns)
   take-out-written = ap₂ take gives leaves ∙ take-append-seam new (replicate (length f - length new) 32) ∙ sym (result-written way f ns (may .accepted))
 
   -- "the freed bytes after the new end become blanks"
-  pub take-out-blanks : drop (takeOutOf way f ns .gives .length) (takeOutOf way f ns .leaves) ≡ replicate (length f - takeOutOf way f ns .gives .length) 32
+  pub take-out-blanks : drop (takeOutOf way f ns held .gives .length) (takeOutOf way f ns held .leaves) ≡ replicate (length f - takeOutOf way f ns held .gives .length) 32
   take-out-blanks =
       ap₂ drop gives leaves ∙ drop-append-seam new (replicate (length f - length new) 32) ∙ ap (λ n. replicate (length f - n) 32) (sym gives)
 
   -- the lent bytes stay as many, and the new file is no longer than the old one
-  pub take-out-length : (takeOutOf way f ns .gives .length ≤ length f) × (length (takeOutOf way f ns .leaves) ≡ length f)
+  pub take-out-length : (takeOutOf way f ns held .gives .length ≤ length f) × (length (takeOutOf way f ns held .leaves) ≡ length f)
   take-out-length =
       let fits = result-fits way f ns (may .accepted) in (
         rw gives fits,
         ap length leaves ∙ length-append new (replicate (length f - length new) 32) ∙ rw length-replicate (omega arith),
       )
 
-  front : take (takeOutOf way f ns .gives .length) (takeOutOf way f ns .leaves) ≡ new
+  front : take (takeOutOf way f ns held .gives .length) (takeOutOf way f ns held .leaves) ≡ new
   front = take-out-written ∙ result-written way f ns (may .accepted)
 
   -- that file is accepted
-  pub take-out-accepted : checkedOf way (take (takeOutOf way f ns .gives .length) (takeOutOf way f ns .leaves)) .answer ≡ Answer.Granted
+  pub take-out-accepted : checkedOf way (take (takeOutOf way f ns held .gives .length) (takeOutOf way f ns held .leaves)) .answer ≡ Answer.Granted
   take-out-accepted = ap (λ g. checkedOf way g .answer) front ∙ result-accepted way f ns (may .accepted) (may .left)
 
   -- it says what the old one said, without those entries
-  pub take-out-view : viewOf way (take (takeOutOf way f ns .gives .length) (takeOutOf way f ns .leaves)) ≡ without (viewOf way f) ns
+  pub take-out-view : viewOf way (take (takeOutOf way f ns held .gives .length) (takeOutOf way f ns held .leaves)) ≡ without (viewOf way f) ns
   take-out-view = ap (viewOf way) front ∙ result-view way f ns (may .accepted)
 
   -- and its table is the old one without those rows
-  pub take-out-table : tableOf way (take (takeOutOf way f ns .gives .length) (takeOutOf way f ns .leaves)) ≡ tableWithout (tableOf way f) ns
+  pub take-out-table : tableOf way (take (takeOutOf way f ns held .gives .length) (takeOutOf way f ns held .leaves)) ≡ tableWithout (tableOf way f) ns
   take-out-table = ap (tableOf way) front ∙ result-table way f ns (may .accepted)
+
+  -- the list is that file's: "taking entries out rebuilds it"; what stands behind it stays
+  pub take-out-rows : takeOutOf way f ns held .rows ≡ inFront (rowsOf (viewOf way (take (takeOutOf way f ns held .gives .length) (takeOutOf way f ns held .leaves)))) held
+  take-out-rows =
+      ap (λ x. relisted x (without (viewOf way f) ns) held) (sym (told way f ns held) ∙ e) ∙ ap (λ v. inFront (rowsOf v) held) (sym take-out-view)
 
 -- ---- the empty list is granted
 
@@ -275,14 +310,24 @@ unchanged x result f p q =
     ap₂ (λ y r. shortened y r f) p q
     ∙ ap (λ l. record { gives = record { answer = Answer.Granted; length = length f }; leaves = l }) (ap (λ n. f ++ replicate n 32) none ∙ append-nil f)
 
--- and "changes nothing"
-pub take-out-none : (way : Way) (f : List ℕ) → checkedOf way f .answer ≡ Answer.Granted
-    → takeOutOf way f [] ≡ record { gives = record { answer = Answer.Granted; length = length f }; leaves = f }
+-- and "changes nothing" of the file
+pub take-out-none : (way : Way) (f held : List ℕ) → checkedOf way f .answer ≡ Answer.Granted → 2 * length (viewOf way f .batches) ≤ length held
+    → takeOutOf way f [] held
+    ≡ record { gives = record { answer = Answer.Granted; length = length f }; leaves = f; rows = inFront (rowsOf (viewOf way f)) held }
 unfolding allExist
-take-out-none way f g =
+take-out-none way f held g h =
     let v = viewOf way f in
     let p = accepted-view way f g in
     let all = without-none v (p .keeps) in
     let some = some-entry 0 (v .batches) (p .keeps .batches) (p .keeps .nonempty) in
-    let answer = take-out-exactly way f [] .1 (record { accepted = g; numbers = refl; left = subst (λ w. 1 ≤ length (entriesOf w)) (sym all) some }) in
-    unchanged (takeOutAnswer way f []) (fileOf way (without v [])) f (sym (answered (takeOutAnswer way f []) (fileOf way (without v [])) f) ∙ answer) (ap (fileOf way) all ∙ sym (p .form))
+    let may : Removable way f [] held =
+    record {
+      accepted = g;
+      numbers = refl;
+      left = subst (λ w. 1 ≤ length (entriesOf w)) (sym all) some;
+      room = subst (λ w. 2 * length (w .batches) ≤ length held) (sym all) h;
+    } in
+    let x = takeOutAnswer way f [] (length held) in
+    let granted = sym (told way f [] held) ∙ take-out-exactly way f [] held .1 may in
+    let o = unchanged x (fileOf way (without v [])) f granted (ap (fileOf way) all ∙ sym (p .form)) in
+    ap₂ (λ (d : Outcome Made) (l : List ℕ). record { gives = d .gives; leaves = d .leaves; rows = l }) o (ap₂ (λ y w. relisted y w held) granted all)

@@ -12,7 +12,10 @@ use Rattle.layout.specs.declared.Way.{Way}
 use Rattle.records.specs.Run.{checkedOf}
 use Rattle.view.specs.View.{Entry, Batch, View, entriesOf, fileOf, viewOf}
 use Rattle.view.specs.Table.{tableBytes, viewOfTable}
-use Rattle.view.specs.Outcome.{Outcome, refusal, demand, andThen, exists}
+use Rattle.view.specs.Outcome.{Outcome, demand, andThen, exists}
+use Rattle.layout.specs.Paper.{refusal}
+use Rattle.funds.specs.Funds.{enoughRows}
+use Rattle.funds.specs.Outcome.{Listed, relisted}
 
 -- entry k is one of those in the list: "a list of entry numbers in any order, repeats counting once"
 unfoldable pub named : ℕ → List ℕ → Bool
@@ -49,11 +52,13 @@ allExist v [] = true
 allExist v (n ∷ ns) = exists v n && allExist v ns
 
 -- "Refusals: the file's own, 25 for the first bad number in the list, 27 if no entry would be left."
-abbrev pub takeOutAnswer : Way → List ℕ → List ℕ → Answer
-takeOutAnswer way f ns =
+-- and "23, last, where the list lent to .. taking out is too short": "the room is measured by the batches left"; a list of n numbers is lent
+abbrev pub takeOutAnswer : Way → List ℕ → List ℕ → ℕ → Answer
+takeOutAnswer way f ns n =
     andThen (checkedOf way f .answer)
     (demand (allExist (viewOf way f) ns) (refusal Fault.NoEntry 0 0)
-    (demand (leb 1 (length (entriesOf (without (viewOf way f) ns)))) (refusal Fault.NoneLeft 0 0) Answer.Granted))
+    (demand (leb 1 (length (entriesOf (without (viewOf way f) ns)))) (refusal Fault.NoneLeft 0 0)
+    (demand (enoughRows (without (viewOf way f) ns) n) (refusal Fault.Room 0 0) Answer.Granted)))
 
 -- "The freed bytes after the new end become blanks, and the new length is given."
 abbrev pub shortened : Answer → List ℕ → List ℕ → Outcome Made
@@ -65,5 +70,10 @@ shortened Answer.Granted result f =
 shortened (Answer.Refused r) result f =
     record { gives = record { answer = Answer.Refused r; length = 0 }; leaves = f }
 
-abbrev pub takeOutOf : Way → List ℕ → List ℕ → Outcome Made
-takeOutOf way f ns = shortened (takeOutAnswer way f ns) (fileOf way (without (viewOf way f) ns)) f
+-- "taking entries out rebuilds it": the list, which held `held`, is that of the file left
+abbrev pub takeOutOf : Way → List ℕ → List ℕ → List ℕ → Listed Made
+takeOutOf way f ns held =
+    let left = without (viewOf way f) ns in
+    let answer = takeOutAnswer way f ns (length held) in
+    let done = shortened answer (fileOf way left) f in
+    record { gives = done .gives; leaves = done .leaves; rows = relisted answer left held }

@@ -15,13 +15,14 @@ use Rattle.layout.specs.declared.Refusal.{Refusal}
 use Rattle.records.specs.Run.{checkedOf}
 use Rattle.view.specs.View.{recordsOf}
 use Rattle.view.specs.Table.{viewOfTable, shaped, formed}
-use Rattle.view.specs.Outcome.{Outcome, refusal, demand, andThen, made, room, writeOf}
-use Rattle.view.proofs.Tables.{shaped-sized}
-use Rattle.view.proofs.Reading.{records-long, file-length}
-use Rattle.view.proofs.Answers.{demand-granted}
-use Rattle.view.proofs.Bridge.{checked-many}
-use Rattle.view.proofs.BridgeSound.{refused-not}
-use Rattle.view.proofs.Twins.{twins}
+use Rattle.view.specs.Outcome.{Outcome, demand, andThen, made, room, writeOf}
+use Rattle.layout.specs.Paper.{refusal}
+use Rattle.bridge.proofs.Tables.{shaped-sized}
+use Rattle.bridge.proofs.Reading.{records-long, file-length}
+use Rattle.bridge.proofs.Answers.{demand-granted}
+use Rattle.bridge.proofs.Bridge.{checked-many}
+use Rattle.bridge.proofs.BridgeSound.{refused-not}
+use Rattle.bridge.proofs.Twins.{twins}
 use Rattle.layout.specs.declared.Way.{Way}
 use Rattle.layout.specs.Ways.{recordBytes}
 use Rattle.writing.specs.Judge.{writable}

@@ -6,7 +6,8 @@ use Rattle.layout.specs.declared.Answer.{Answer}
 use Rattle.layout.specs.declared.Way.{Way}
 use Rattle.records.specs.Run.{checkedOf}
 use Rattle.view.specs.Table.{shaped, formed}
-use Rattle.view.specs.Outcome.{refusal, demand}
+use Rattle.view.specs.Outcome.{demand}
+use Rattle.layout.specs.Paper.{refusal}
 
 -- "Writing tries 24, then the formed file's refusals": the same in either way
 abbrev pub writable : List ℕ → Answer

@@ -29,10 +29,10 @@ pub fn judge(table: &[u8]) -> Answer
     ensures { λ r. ⌜ r ≡ writable (now (table .entry)) ⌝ }
 {
     if !shape::shaped(table) {
-        return passing::refused(Fault::Shape, 0, 0);
+        return layout::refused(Fault::Shape, 0, 0);
     }
     if 1_000_000 < records_in(table) {
-        return passing::refused(Fault::Length, 0, 0);
+        return layout::refused(Fault::Length, 0, 0);
     }
     passing::judged(table)
 }
@@ -51,7 +51,7 @@ pub fn write(way: Way, table: &[u8], file: &mut [u8]) -> Made
     let size = layout::record_bytes(way) * records_in(table);
     if file.len() < size {
         return Made {
-            answer: passing::refused(Fault::Room, 0, 0),
+            answer: layout::refused(Fault::Room, 0, 0),
             length: 0,
         };
     }

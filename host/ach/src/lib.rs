@@ -1,5 +1,5 @@
 //! Qalarimo ACH: checking, reading, writing and altering ACH payment files, taking entries out of
-//! them, and client lists.
+//! them, where their credits pass a limit, and client lists.
 //!
 //! The work is done by a proved library, which this crate links as an archive. What is here turns
 //! slices into pointers and numbers into answers, and nothing else. Every function takes any
@@ -9,6 +9,9 @@
 //! every record. A *pay table* holds the same payments without what can be computed from them:
 //! counts, hashes, totals, fillers and line ends. A *list* holds payments as comma lines, as
 //! spreadsheets export them; it becomes a table by [`import`], and [`export`] makes one of a table.
+//! The *rows* of a file are two numbers for each batch, the record number of its control and the
+//! credits so far in cents. The check gives them ([`check_into`], [`rows_of`]), [`alter`] and
+//! [`take_out`] keep them true, and [`runs_out`] asks them where a limit is passed.
 //!
 //! ```
 //! use ach::Way;
@@ -16,8 +19,11 @@
 //! let table = include_bytes!("../../../samples/whole.table");
 //! let mut file = ach::file_of(Way::Plain, table)?;
 //! assert_eq!(ach::check(Way::Plain, &file)?.credit, 12_550);
-//! assert_eq!(ach::alter(Way::Plain, &mut file, 1, 20_000)?, 10_000);
+//! let mut rows = ach::rows_of(Way::Plain, &file)?;
+//! assert_eq!(ach::alter(Way::Plain, &mut file, &mut rows, 1, 20_000)?, 10_000);
 //! assert_eq!(ach::check(Way::Plain, &file)?.credit, 22_550);
+//! assert!(ach::runs_out(&rows, 22_549).found.is_some());
+//! assert!(ach::runs_out(&rows, 22_550).found.is_none());
 //! # Ok::<(), ach::Refusal>(())
 //! ```
 
@@ -25,10 +31,12 @@
 
 pub mod boundary;
 pub mod fields;
+mod funds;
 mod lines;
 mod refusal;
 mod way;
 
+pub use funds::{check_into, rows_of, runs_out, Row, RunsOut};
 pub use lines::{
     export, export_into, import, import_into, room_for_lines, room_for_table, LineField, BATCH_ROW,
     FILE_ROW, LINE_FIELDS,
@@ -85,7 +93,8 @@ fn granted(answer: u64) -> Result<(), Refusal> {
     }
 }
 
-/// Tells what an ACH file of this way holds, or the first reason why it is none.
+/// Tells what an ACH file of this way holds, or the first reason why it is none. For its rows as
+/// well, ask with [`check_into`].
 ///
 /// ```
 /// use ach::Way;
@@ -103,14 +112,7 @@ fn granted(answer: u64) -> Result<(), Refusal> {
 /// # Ok::<(), ach::Refusal>(())
 /// ```
 pub fn check(way: Way, file: &[u8]) -> Result<Acceptance, Refusal> {
-    let mut numbers = [0; ACCEPTANCE_LENGTH];
-    // SAFETY: the pointers come from a slice and an array of the lengths that the boundary names.
-    let answer = unsafe {
-        boundary::ach_check(way.number(), file.as_ptr(), file.len(), numbers.as_mut_ptr())
-    };
-    granted(answer)?;
-    let [batches, entries, addenda, debit, credit, by_code @ ..] = numbers;
-    Ok(Acceptance { batches, entries, addenda, debit, credit, by_code })
+    check_into(way, file, &mut vec![0; way.room_for_rows(file.len())])
 }
 
 /// The line that the check program prints for an answer: `OK batches entries addenda debit credit`
@@ -148,7 +150,7 @@ pub fn line(answer: &Result<Acceptance, Refusal>) -> String {
 pub fn read(way: Way, file: &[u8], room: &mut [u8]) -> Result<usize, Refusal> {
     let mut length = 0;
     let (space, size) = (room.as_mut_ptr(), room.len());
-    // SAFETY: as for `check`; the room is lent for writing and does not overlap the file.
+    // SAFETY: as for `check_into`; the room is lent for writing and does not overlap the file.
     let answer = unsafe {
         boundary::ach_read(way.number(), file.as_ptr(), file.len(), space, size, &mut length)
     };
@@ -224,32 +226,46 @@ fn in_room_of(
     Ok(room)
 }
 
-/// Gives an entry, counted from 1, a new amount in cents and brings the totals along. Tells the
-/// new amount less the old.
+/// Gives an entry, counted from 1, a new amount in cents and brings the totals along, and the file's
+/// rows, which have to stand in front of the ones lent (else 34); what stands behind them stays.
+/// Tells the new amount less the old.
 ///
 /// ```
 /// use ach::Way;
 ///
 /// let mut file = *include_bytes!("../../../samples/whole.ach");
-/// assert_eq!(ach::alter(Way::Plain, &mut file, 2, 2_500)?, -50);
-/// let refusal = ach::alter(Way::Plain, &mut file, 2, 0).unwrap_err();
+/// let mut rows = ach::rows_of(Way::Plain, &file)?;
+/// assert_eq!(ach::alter(Way::Plain, &mut file, &mut rows, 2, 2_500)?, -50);
+/// assert_eq!(rows, [6, 12_500]);
+/// let refusal = ach::alter(Way::Plain, &mut file, &mut rows, 2, 0).unwrap_err();
 /// assert_eq!((refusal.number, refusal.record, refusal.field), (14, 4, 6));
+/// let refusal = ach::alter(Way::Plain, &mut file, &mut [6, 12_550], 2, 2_550).unwrap_err();
+/// assert_eq!(refusal.to_string(), "refusal 34: the rows lent are not those of the file");
 /// assert_eq!(ach::check(Way::Plain, &file)?.credit, 12_500);
 /// # Ok::<(), ach::Refusal>(())
 /// ```
-pub fn alter(way: Way, file: &mut [u8], entry: u64, amount: u64) -> Result<i64, Refusal> {
+pub fn alter(
+    way: Way,
+    file: &mut [u8],
+    rows: &mut [u64],
+    entry: u64,
+    amount: u64,
+) -> Result<i64, Refusal> {
     let mut difference = 0;
     let (space, size) = (file.as_mut_ptr(), file.len());
-    // SAFETY: as for `check`; the file is lent for writing.
-    let answer =
-        unsafe { boundary::ach_alter(way.number(), space, size, entry, amount, &mut difference) };
+    let (list, room) = (rows.as_mut_ptr(), rows.len());
+    // SAFETY: as for `check_into`; the file is lent for writing, too.
+    let answer = unsafe {
+        boundary::ach_alter(way.number(), space, size, list, room, entry, amount, &mut difference)
+    };
     granted(answer)?;
     Ok(difference)
 }
 
 /// Takes entries out, counted from 1 through the file as it is lent, with their addenda and with
 /// the batches that they leave empty, and brings the controls and the fillers along. Tells the new
-/// length; from there on the lent bytes are blanks.
+/// length; from there on the lent bytes are blanks. The rows of what is left go to the front of the
+/// ones lent, whatever those held: two numbers for each batch left are room enough (else 23).
 ///
 /// The result is the file of the pay table without those rows; traces and batch numbers stay. The
 /// numbers may stand in any order, and repeats count once. At least one entry has to be left.
@@ -260,23 +276,39 @@ pub fn alter(way: Way, file: &mut [u8], entry: u64, amount: u64) -> Result<i64, 
 /// use ach::Way;
 ///
 /// let mut file = *include_bytes!("../../../samples/gaps.ach");
-/// let length = ach::take_out(Way::Plain, &mut file, &[6, 2, 3, 5, 3])?;
+/// let mut rows = [0; 2];
+/// let length = ach::take_out(Way::Plain, &mut file, &[6, 2, 3, 5, 3], &mut rows)?;
 /// assert_eq!(&file[..length], include_bytes!("../../../samples/recalled.ach"));
 /// assert_eq!(file[length..], [b' '; 10 * 94]);
+/// assert_eq!(rows, [5, 329_610]);
 ///
 /// let file = &mut file[..length];
-/// assert_eq!(ach::take_out(Way::Plain, file, &[3]).unwrap_err().number, 25);
-/// assert_eq!(ach::take_out(Way::Plain, file, &[1, 2]).unwrap_err().number, 27);
+/// assert_eq!(ach::take_out(Way::Plain, file, &[3], &mut rows).unwrap_err().number, 25);
+/// assert_eq!(ach::take_out(Way::Plain, file, &[1, 2], &mut rows).unwrap_err().number, 27);
+/// assert_eq!(ach::take_out(Way::Plain, file, &[1], &mut []).unwrap_err().number, 23);
 /// assert_eq!(ach::check(Way::Plain, file)?.entries, 2);
 /// # Ok::<(), ach::Refusal>(())
 /// ```
-pub fn take_out(way: Way, file: &mut [u8], entries: &[u64]) -> Result<usize, Refusal> {
+pub fn take_out(
+    way: Way,
+    file: &mut [u8],
+    entries: &[u64],
+    rows: &mut [u64],
+) -> Result<usize, Refusal> {
     let mut length = 0;
-    let (space, size) = (file.as_mut_ptr(), file.len());
-    let (list, count) = (entries.as_ptr(), entries.len());
-    // SAFETY: as for `alter`; the list is lent for reading and does not overlap the file.
-    let answer =
-        unsafe { boundary::ach_take_out(way.number(), space, size, list, count, &mut length) };
+    // SAFETY: as for `alter`; the entries are lent for reading and do not overlap the rest.
+    let answer = unsafe {
+        boundary::ach_take_out(
+            way.number(),
+            file.as_mut_ptr(),
+            file.len(),
+            entries.as_ptr(),
+            entries.len(),
+            rows.as_mut_ptr(),
+            rows.len(),
+            &mut length,
+        )
+    };
     granted(answer)?;
     Ok(length as usize)
 }
@@ -296,7 +328,7 @@ pub fn take_out(way: Way, file: &mut [u8], entries: &[u64]) -> Result<usize, Ref
 pub fn addendum(way: Way, file: &[u8], entry: u64) -> Result<&[u8], Refusal> {
     let (mut start, mut length) = (0, 0);
     let (bytes, size) = (file.as_ptr(), file.len());
-    // SAFETY: as for `check`.
+    // SAFETY: as for `check_into`.
     let answer = unsafe {
         boundary::ach_addendum(way.number(), bytes, size, entry, &mut start, &mut length)
     };

@@ -57,7 +57,7 @@ impl fmt::Display for Refusal {
 impl std::error::Error for Refusal {}
 
 /// What each number means.
-const REASONS: [(u8, &str); 31] = [
+const REASONS: [(u8, &str); 32] = [
     (1, "the length of the file is wrong"),
     (2, "the data end where a record is still due"),
     (3, "a record of this type may not stand here"),
@@ -89,6 +89,7 @@ const REASONS: [(u8, &str); 31] = [
     (29, "the line is not six fields with commas between them"),
     (30, "the amount of the line is not digits, a point and two digits, or is too large"),
     (32, "the field of the line is too long for its columns"),
+    (34, "the rows lent are not those of the file"),
 ];
 
 /// What a refusal's number means; nothing for a number that is none.

@@ -2,6 +2,8 @@
 
 use crate::fields::COLUMNS;
 
+const MOST_RECORDS: usize = 1_000_000;
+
 /// How the records of a file follow one another.
 ///
 /// The caller tells the way; nothing guesses it from the bytes. Columns, fields and record numbers
@@ -58,7 +60,7 @@ impl Way {
     /// assert_eq!(ach::Way::Lined.longest_file(), 96_000_000);
     /// ```
     pub const fn longest_file(self) -> usize {
-        1_000_000 * self.record_length()
+        MOST_RECORDS * self.record_length()
     }
 
     /// Room that suffices for the file of any pay table of this length that has one.
@@ -76,6 +78,25 @@ impl Way {
         let least = 11 * self.record_length() - 2 * crate::EMPTY_TABLE;
         let enough = table_length.saturating_mul(2).saturating_add(least);
         enough.min(self.longest_file())
+    }
+
+    /// Room that suffices for the rows of any file of this length, in numbers, of which a row has
+    /// two.
+    ///
+    /// ```
+    /// use ach::Way;
+    ///
+    /// let file = include_bytes!("../../../samples/whole.ach");
+    /// let mut room = vec![0; Way::Plain.room_for_rows(file.len())];
+    /// ach::check_into(Way::Plain, file, &mut room)?;
+    /// assert_eq!(room[..2], [6, 12_550]);
+    /// # Ok::<(), ach::Refusal>(())
+    /// ```
+    pub const fn room_for_rows(self, file_length: usize) -> usize {
+        let records = file_length / self.record_length();
+        let records = if records < MOST_RECORDS { records } else { MOST_RECORDS };
+        // Beside header and file control, a batch has at least its own two and an entry.
+        2 * (records.saturating_sub(2) / 3)
     }
 
     /// The number that stands for the way at the boundary.

@@ -40,8 +40,8 @@ fn both_grounds_of_the_refusal() {
             let refusal = Refusal { number: 28, record: 5, field };
             assert_eq!(ach::check(way, &file), Err(refusal));
             assert_eq!(ach::table_of(way, &file), Err(refusal));
-            assert_eq!(ach::alter(way, &mut file, 1, 1), Err(refusal));
-            assert_eq!(ach::take_out(way, &mut file, &[2]), Err(refusal));
+            assert_eq!(ach::alter(way, &mut file, &mut [], 1, 1), Err(refusal));
+            assert_eq!(ach::take_out(way, &mut file, &[2], &mut []), Err(refusal));
         }
     }
 }
@@ -89,11 +89,12 @@ fn only_nothing_is_taken_for_a_remittance() {
     for (way, file) in both(FILE) {
         for entry in [2, 3, 4, 5, 6] {
             let mut altered = file.clone();
+            let mut rows = ach::rows_of(way, &file).unwrap();
             for amount in [1, 9_999_999_999, u64::MAX] {
                 let refusal = Refusal { number: 14, record: 1 + 2 * entry, field: 6 };
-                assert_eq!(ach::alter(way, &mut altered, entry, amount), Err(refusal));
+                assert_eq!(ach::alter(way, &mut altered, &mut rows, entry, amount), Err(refusal));
             }
-            assert_eq!(ach::alter(way, &mut altered, entry, 0), Ok(0));
+            assert_eq!(ach::alter(way, &mut altered, &mut rows, entry, 0), Ok(0));
             assert_eq!(altered, file);
             assert_eq!(ach::addendum(way, &file, entry).map(<[u8]>::len), Ok(80));
         }

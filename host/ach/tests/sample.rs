@@ -36,7 +36,9 @@ fn the_sample_and_its_table() {
 #[test]
 fn an_amount_and_an_addendum() {
     let mut file = FILE.to_vec();
-    assert_eq!(ach::alter(Way::Plain, &mut file, 1, 9_999), Ok(-1));
+    let mut rows = [6, 12_550];
+    assert_eq!(ach::alter(Way::Plain, &mut file, &mut rows, 1, 9_999), Ok(-1));
+    assert_eq!(rows, [6, 12_549]);
     assert_eq!(ach::check(Way::Plain, &file).unwrap().credit, 12_549);
     assert_eq!(ach::addendum(Way::Plain, FILE, 1), Ok([].as_slice()));
     assert!(ach::addendum(Way::Plain, FILE, 2).unwrap().starts_with(b"REIMBURSEMENT"));
@@ -58,7 +60,8 @@ fn the_lined_sample() {
     assert_eq!(ach::write(Way::Lined, &table, &mut room[..959]).unwrap_err().number, 23);
 
     let mut file = LINED.to_vec();
-    assert_eq!(ach::alter(Way::Lined, &mut file, 1, 9_999), Ok(-1));
+    let mut rows = ach::rows_of(Way::Plain, FILE).unwrap();
+    assert_eq!(ach::alter(Way::Lined, &mut file, &mut rows, 1, 9_999), Ok(-1));
     assert_eq!(ach::check(Way::Lined, &file).unwrap().credit, 12_549);
     let differing = file.iter().zip(LINED).filter(|(new, old)| new != old).count();
     // 0000010000 becomes 0000009999, and both totals end with 49 for 50.
@@ -78,8 +81,8 @@ fn a_line_end_is_refused_by_every_function() {
         assert_eq!(ach::table_of(Way::Lined, &file), Err(refusal));
         assert_eq!(ach::addendum(Way::Lined, &file, 1), Err(refusal));
         let before = file.clone();
-        assert_eq!(ach::alter(Way::Lined, &mut file, 1, 1), Err(refusal));
-        assert_eq!(ach::take_out(Way::Lined, &mut file, &[1]), Err(refusal));
+        assert_eq!(ach::alter(Way::Lined, &mut file, &mut [], 1, 1), Err(refusal));
+        assert_eq!(ach::take_out(Way::Lined, &mut file, &[1], &mut []), Err(refusal));
         assert_eq!(file, before);
     }
 }
@@ -138,5 +141,5 @@ fn a_refusal_speaks() {
     assert_eq!(words(8, 0), "refusal 6: something other than digits stands here (record 8)");
     assert!(words(8, 3).ends_with("stands here (record 8, field 3)"));
     let known: Vec<u8> = (0..=255).filter(|number| ach::reason(*number).is_some()).collect();
-    assert_eq!(known, (1..=30).chain([32]).collect::<Vec<u8>>());
+    assert_eq!(known, (1..=30).chain([32, 34]).collect::<Vec<u8>>());
 }

@@ -27,7 +27,7 @@ fn every_sample_has_its_line() {
 fn every_table_is_its_files() {
     let files = files();
     let tables: Vec<&String> = files.keys().filter(|name| name.ends_with(".table")).collect();
-    assert_eq!(tables.len(), 12);
+    assert_eq!(tables.len(), 13);
     for name in tables {
         let (table, plain) = (&files[name], &files[&name.replace(".table", ".ach")]);
         let lined = generate::lines::lined(plain);
@@ -61,8 +61,9 @@ fn a_refusal_is_the_same_from_every_function() {
         let mut lent = file.clone();
         assert_eq!(ach::line(&Err(refusal)), line, "{name}");
         assert_eq!(ach::table_of(way, file), Err(refusal), "{name}");
-        assert_eq!(ach::alter(way, &mut lent, 1, 1), Err(refusal), "{name}");
-        assert_eq!(ach::take_out(way, &mut lent, &[1]), Err(refusal), "{name}");
+        assert_eq!(ach::check_into(way, file, &mut []), Err(refusal), "{name}");
+        assert_eq!(ach::alter(way, &mut lent, &mut [], 1, 1), Err(refusal), "{name}");
+        assert_eq!(ach::take_out(way, &mut lent, &[1], &mut []), Err(refusal), "{name}");
         assert_eq!(ach::addendum(way, file, 1), Err(refusal), "{name}");
         assert_eq!(&lent, file, "{name}");
     }

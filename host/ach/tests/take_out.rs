@@ -16,9 +16,11 @@ fn four_payments_are_recalled() {
         (Way::Lined, GAPS_LINED, generate::lines::lined(RECALLED)),
     ] {
         let mut file = lent.to_vec();
-        let length = ach::take_out(way, &mut file, &[2, 3, 5, 6]).unwrap();
+        let mut rows = [7; 4];
+        let length = ach::take_out(way, &mut file, &[2, 3, 5, 6], &mut rows).unwrap();
         assert_eq!(file[..length], rest);
         assert!(file[length..].iter().all(|byte| *byte == b' '));
+        assert_eq!(rows, [5, 329_610, 7, 7]);
         let held = ach::check(way, &rest).unwrap();
         assert_eq!((held.batches, held.entries, held.credit), (1, 2, 329_610));
     }
@@ -27,8 +29,10 @@ fn four_payments_are_recalled() {
 #[test]
 fn a_list_of_none_changes_nothing() {
     let mut file = GAPS.to_vec();
-    assert_eq!(ach::take_out(Way::Plain, &mut file, &[]), Ok(GAPS.len()));
+    let mut rows = [0; 4];
+    assert_eq!(ach::take_out(Way::Plain, &mut file, &[], &mut rows), Ok(GAPS.len()));
     assert_eq!(file, GAPS);
+    assert_eq!(Ok(rows.to_vec()), ach::rows_of(Way::Plain, GAPS));
 }
 
 /// The list is longer than the file, and it is only read.
@@ -36,7 +40,7 @@ fn a_list_of_none_changes_nothing() {
 fn order_and_repeats_do_not_matter() {
     let list = [6, 3, 5, 2].repeat(1_000);
     let mut file = GAPS.to_vec();
-    assert_eq!(ach::take_out(Way::Plain, &mut file, &list), Ok(RECALLED.len()));
+    assert_eq!(ach::take_out(Way::Plain, &mut file, &list, &mut [0; 2]), Ok(RECALLED.len()));
     assert_eq!(&file[..RECALLED.len()], RECALLED);
     assert_eq!(list, [6, 3, 5, 2].repeat(1_000));
 }
@@ -57,7 +61,7 @@ fn a_refusal_leaves_the_file() {
         for (way, lent) in [(Way::Plain, GAPS), (Way::Lined, GAPS_LINED)] {
             let mut file = lent.to_vec();
             let refusal = Refusal::without_place(number);
-            assert_eq!(ach::take_out(way, &mut file, list), Err(refusal), "{list:?}");
+            assert_eq!(ach::take_out(way, &mut file, list, &mut []), Err(refusal), "{list:?}");
             assert_eq!(file, lent);
         }
     }
@@ -72,7 +76,7 @@ fn the_files_own_refusal_comes_first() {
             (Way::Plain, &GAPS[..94], Refusal { number: 2, record: 2, field: 0 }),
         ] {
             let mut file = lent.to_vec();
-            assert_eq!(ach::take_out(way, &mut file, list), Err(expected));
+            assert_eq!(ach::take_out(way, &mut file, list, &mut []), Err(expected));
             assert_eq!(file, lent);
         }
     }
@@ -88,10 +92,12 @@ fn it_is_the_file_of_the_table_without_the_rows() {
         let list = random_recall(&mut random, &plan);
         for (way, mut file) in [(Way::Plain, plan.file()), (Way::Lined, plan.lined_file())] {
             let table = ach::table_of(way, &file).unwrap();
-            if let Ok(length) = ach::take_out(way, &mut file, &list) {
+            let mut rows = ach::rows_of(way, &file).unwrap();
+            if let Ok(length) = ach::take_out(way, &mut file, &list, &mut rows) {
                 let rest = without_entries(&table, &list);
                 assert_eq!(ach::file_of(way, &rest).as_deref(), Ok(&file[..length]));
                 assert_eq!(ach::table_of(way, &file[..length]), Ok(rest));
+                assert!(rows.starts_with(&ach::rows_of(way, &file[..length]).unwrap()));
                 granted += 1;
             }
         }
@@ -101,6 +107,7 @@ fn it_is_the_file_of_the_table_without_the_rows() {
 
 #[test]
 fn a_refusal_speaks() {
-    let refusal = ach::take_out(Way::Plain, &mut GAPS.to_vec(), &[1, 2, 3, 4, 5, 6]).unwrap_err();
+    let all = [1, 2, 3, 4, 5, 6];
+    let refusal = ach::take_out(Way::Plain, &mut GAPS.to_vec(), &all, &mut []).unwrap_err();
     assert_eq!(refusal.to_string(), "refusal 27: no entry would be left");
 }

@@ -40,7 +40,11 @@ fn every_number_is_a_way() {
 
 fn answer(way: u64, file: &[u8]) -> (u64, [u64; ach::ACCEPTANCE_LENGTH]) {
     let mut held = [7; ach::ACCEPTANCE_LENGTH];
-    // SAFETY: the pointers come from a slice and an array of the lengths that the boundary names.
-    let answer = unsafe { ach_check(way, file.as_ptr(), file.len(), held.as_mut_ptr()) };
+    let mut rows = vec![7; file.len() / 141];
+    let (list, room) = (rows.as_mut_ptr(), rows.len());
+    // SAFETY: the pointers come from slices and an array of the lengths that the boundary is told or
+    // names.
+    let answer =
+        unsafe { ach_check(way, file.as_ptr(), file.len(), held.as_mut_ptr(), list, room) };
     (answer, held)
 }

@@ -1,6 +1,6 @@
 //! Times the proved library against the independent implementation, both in this process and on
-//! the same file of a million records; rows that say so are on the file with line ends. To be built
-//! with `--release`.
+//! the same file of a million records; rows that say so are on the file with line ends, or on one
+//! whose batches have one entry each. To be built with `--release`.
 //!
 //! The best of several rounds counts, since whatever else the machine does only adds time. The
 //! rounds of the two sides take turns, so that a slow while hits both.
@@ -20,22 +20,39 @@ fn main() {
     println!("                proved library          independent             ratio");
     check("check", ach::Way::Plain, independent::Way::Plain, &file);
     check("check, lined", ach::Way::Lined, independent::Way::Lined, &lined(&file));
+    small_batches();
     read_and_write(&file);
     alter(&file);
     take_out("take out 4", &file, |entries| (1..=4).map(|fifth| entries * fifth / 5).collect());
     take_out("take out half", &file, |entries| (1..=entries).step_by(2).collect());
 }
 
+/// The check with the list that it gives, in memory that is lent.
 fn check(name: &str, way: ach::Way, independent_way: independent::Way, file: &[u8]) {
-    let due = "the file is in order";
+    let due = "the file is in order, and the room suffices";
+    let room = way.room_for_rows(file.len());
+    let (mut one, mut other) = (vec![0; room], vec![0; room]);
     race(
         name,
-        || ach::check(way, black_box(file)).map(|held| held.entries).expect(due),
+        || ach::check_into(way, black_box(file), &mut one).map(|held| held.entries).expect(due),
         || {
-            independent::check(independent_way, black_box(file))
+            independent::check_into(independent_way, black_box(file), &mut other)
                 .map(|held| held.entries)
                 .expect(due)
         },
+    );
+}
+
+/// As many rows as a file can have, and a question that looks at all of them.
+fn small_batches() {
+    let shape = BigFile { records: RECORDS, entries_in_batch: 1, addendum_every: 0 };
+    let file = big_file(&shape);
+    check("check, small", ach::Way::Plain, independent::Way::Plain, &file);
+    let rows = independent::rows_of(independent::Way::Plain, &file).expect("it is in order");
+    race(
+        "runs out",
+        || ach::runs_out(black_box(&rows), u64::MAX).rows as usize,
+        || independent::runs_out(black_box(&rows), u64::MAX).rows,
     );
 }
 
@@ -63,15 +80,18 @@ fn read_and_write(file: &[u8]) {
 
 fn alter(file: &[u8]) {
     let entry = middle_live_entry(file);
-    let (mut one, mut other) = (file.to_vec(), file.to_vec());
+    let rows = independent::rows_of(independent::Way::Plain, file).expect("the file is in order");
+    let (mut one, mut one_rows) = (file.to_vec(), rows.clone());
+    let (mut other, mut other_rows) = (file.to_vec(), rows);
     race(
         "alter",
         || {
-            ach::alter(ach::Way::Plain, black_box(&mut one), entry, 4_711)
+            ach::alter(ach::Way::Plain, black_box(&mut one), &mut one_rows, entry, 4_711)
                 .expect("the entry takes it")
         },
         || {
-            independent::alter(independent::Way::Plain, black_box(&mut other), entry, 4_711)
+            let way = independent::Way::Plain;
+            independent::alter(way, black_box(&mut other), &mut other_rows, entry, 4_711)
                 .expect("the entry takes it")
         },
     );
@@ -94,13 +114,18 @@ fn alter(file: &[u8]) {
 fn take_out(name: &str, file: &[u8], chosen: impl Fn(u64) -> Vec<u64>) {
     let entries = file.chunks(generate::RECORD).filter(|record| record[0] == b'6').count();
     let list = chosen(entries as u64);
-    let due = "the entries are there, and others";
+    let due = "the entries are there, and others, and the room suffices";
+    let room = ach::Way::Plain.room_for_rows(file.len());
+    let (mut one, mut other) = (vec![0; room], vec![0; room]);
     race_in(
         name,
         &mut file.to_vec(),
         |lent| lent.copy_from_slice(file),
-        |lent| ach::take_out(ach::Way::Plain, black_box(lent), &list).expect(due),
-        |lent| independent::take_out(independent::Way::Plain, black_box(lent), &list).expect(due),
+        |lent| ach::take_out(ach::Way::Plain, black_box(lent), &list, &mut one).expect(due),
+        |lent| {
+            let way = independent::Way::Plain;
+            independent::take_out(way, black_box(lent), &list, &mut other).expect(due)
+        },
     );
 }
 

@@ -1,6 +1,7 @@
 //! What each command does: bytes in, a question to the library, its answer out.
 
 use crate::explain;
+use crate::funds;
 use crate::input::{self, Content, Stamp};
 use crate::list_words::{self, Import, LONGEST_ROW};
 use crate::money::{signed, spelled};
@@ -20,6 +21,7 @@ pub fn run(command: Command) -> Result<(), Trouble> {
         Command::Version => say(&format!("ach {}\n", env!("CARGO_PKG_VERSION"))),
         Command::Check { way, file, line } => check(way, &file, line),
         Command::Show { way, file } => show(way, &file),
+        Command::Funds { way, file, limit, line } => funds(way, &file, &limit, line),
         Command::Read { way, file, target, line } => read(way, &file, &target, line),
         Command::Write { way, table, target, line } => write(way, &table, &target, line),
         Command::Alter { way, file, entry, amount, target, line } => {
@@ -142,10 +144,21 @@ fn held_words(held: &Acceptance) -> String {
     )
 }
 
-fn check_bytes(way: Way, loaded: &Loaded, line: bool) -> Result<Acceptance, Trouble> {
+/// What the library says of a file, which it refuses for the file's own sake alone.
+fn of_file<T>(
+    way: Way,
+    loaded: &Loaded,
+    line: bool,
+    doing: &str,
+    ask: impl FnOnce(Way, &[u8]) -> Result<T, Refusal>,
+) -> Result<T, Trouble> {
     let Loaded { name, bytes, .. } = loaded;
-    watched("checking", name, || ach::check(way, bytes))
+    watched(doing, name, || ask(way, bytes))
         .map_err(|refusal| refused(refusal, line, || words::of_file(way, name, bytes, refusal)))
+}
+
+fn check_bytes(way: Way, loaded: &Loaded, line: bool) -> Result<Acceptance, Trouble> {
+    of_file(way, loaded, line, "checking", ach::check)
 }
 
 fn check(way: Way, file: &Source, line: bool) -> Result<(), Trouble> {
@@ -160,21 +173,33 @@ fn check(way: Way, file: &Source, line: bool) -> Result<(), Trouble> {
 fn show(way: Way, file: &Source) -> Result<(), Trouble> {
     let loaded = load_file(way, file, false)?;
     let held = check_bytes(way, &loaded, false)?;
-    let Loaded { name, bytes, .. } = &loaded;
-    let table = watched("reading", name, || ach::table_of(way, bytes))
-        .map_err(|refusal| Trouble::Refused(words::of_file(way, name, bytes, refusal)))?;
+    let table = of_file(way, &loaded, false, "reading", ach::table_of)?;
     let mut to = BufWriter::new(io::stdout().lock());
-    show::page(name, &table, &held, &mut to).and_then(|()| to.flush()).map_err(standard_output)
+    let shown = show::page(&loaded.name, &table, &held, &mut to);
+    shown.and_then(|()| to.flush()).map_err(standard_output)
+}
+
+fn funds(way: Way, file: &Source, limit: &Amount, line: bool) -> Result<(), Trouble> {
+    let loaded = load_file(way, file, line)?;
+    let rows = of_file(way, &loaded, line, "checking", ach::rows_of)?;
+    let answer = ach::runs_out(&rows, limit.number);
+    if line {
+        return say(&funds::line(answer));
+    }
+    let words = match answer.found {
+        Some(row) => funds::words_of_batch(way, &loaded.bytes, row, limit),
+        None => funds::words_of_none(&rows, limit),
+    };
+    let covered = funds::covered(answer, &rows);
+    say(&format!("{}: {words}; batches covered: {covered}\n", loaded.name))
 }
 
 fn read(way: Way, file: &Source, target: &Target, line: bool) -> Result<(), Trouble> {
     output::look_at(target)?;
     let loaded = load_file(way, file, line)?;
-    let Loaded { name, bytes, .. } = &loaded;
-    let table = watched("reading", name, || ach::table_of(way, bytes))
-        .map_err(|refusal| refused(refusal, line, || words::of_file(way, name, bytes, refusal)))?;
+    let table = of_file(way, &loaded, line, "reading", ach::table_of)?;
     put(target, &table, None)?;
-    report(target, ach::check(way, bytes), table.len(), line)
+    report(target, ach::check(way, &loaded.bytes), table.len(), line)
 }
 
 fn write(way: Way, table: &Source, target: &Target, line: bool) -> Result<(), Trouble> {
@@ -219,7 +244,10 @@ fn alter(
     output::look_at(target)?;
     let mut loaded = load_file(way, file, line)?;
     let (name, bytes) = (&loaded.name, &mut loaded.bytes);
-    let altered = watched("altering", name, || ach::alter(way, bytes, entry.number, amount.number));
+    let altered = watched("altering", name, || {
+        let mut rows = ach::rows_of(way, bytes)?;
+        ach::alter(way, bytes, &mut rows, entry.number, amount.number)
+    });
     let difference = altered.map_err(|refusal| {
         refused(refusal, line, || words::of_alteration(way, name, bytes, refusal, entry, amount))
     })?;
@@ -255,11 +283,13 @@ fn remove(
     let mut loaded = load_file(way, file, line)?;
     let before = check_bytes(way, &loaded, line)?;
     let (name, bytes) = (&loaded.name, &mut loaded.bytes);
-    let length = watched("taking entries out of", name, || ach::take_out(way, bytes, &numbers))
-        .map_err(|refusal| {
-            let words = || words::of_recall(way, name, bytes, refusal, &asked, before.entries);
-            refused(refusal, line, words)
-        })?;
+    // No more batches are left than there were.
+    let mut rows = vec![0; 2 * before.batches as usize];
+    let taking_out = || ach::take_out(way, bytes, &numbers, &mut rows);
+    let length = watched("taking entries out of", name, taking_out).map_err(|refusal| {
+        let words = || words::of_recall(way, name, bytes, refusal, &asked, before.entries);
+        refused(refusal, line, words)
+    })?;
     bytes.truncate(length);
     put(target, bytes, loaded.stamp)?;
     let after = ach::check(way, bytes);

@@ -76,7 +76,7 @@ fn numbers_of(kind: Kind) -> &'static [u8] {
 }
 
 /// What each number asks for.
-const ADVICE: [(u8, &str); 31] = [
+const ADVICE: [(u8, &str); 32] = [
     (1, "A file is records of 94 bytes, back to back, without line ends: 94 to 94,000,000 bytes. With\n\
      --lined it is records of 96 bytes, CR LF behind each, the last one too: 96 to 96,000,000 bytes."),
     (2, "The file ends early. Part of it is missing, or the fillers behind the file control are."),
@@ -121,6 +121,8 @@ const ADVICE: [(u8, &str); 31] = [
     (30, "The amount of a line is written 1234.56, without signs, blanks or commas."),
     (32, "An entry has so many columns for a field. Blanks count; the quotes around a field do not, and\n\
      a doubled quote in it counts once."),
+    (34, "With an alteration a program lends the rows of the file: for each batch the record of its control\n\
+     and the credits so far. This command takes them from the file, so that it does not see this number."),
 ];
 
 #[cfg(test)]

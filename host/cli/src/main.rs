@@ -1,5 +1,5 @@
-//! `ach`: checks, reads, writes, alters and shows ACH payment files, takes entries out of them, and
-//! takes client lists.
+//! `ach`: checks, reads, writes, alters and shows ACH payment files, takes entries out of them, tells
+//! where their credits pass a limit, and takes client lists.
 //!
 //! All that is decided about a file is decided by the proved library. What is here moves bytes
 //! between files and the library's functions, and puts its answers into words.
@@ -10,6 +10,7 @@ mod commands;
 mod due;
 mod explain;
 mod formed;
+mod funds;
 mod input;
 mod list;
 mod list_words;

@@ -9,10 +9,12 @@ use std::path::{Path, PathBuf};
 
 pub const HELP: &str = "\
 ach: checks, reads, writes and alters ACH payment files (PPD and CCD), takes
-entries out of them, and makes pay tables of client lists
+entries out of them, tells where their credits pass a limit, and makes pay
+tables of client lists
 
   ach check FILE                          is the file in order?
   ach show FILE                           batches, entries, totals
+  ach funds FILE LIMIT                    with which batch does LIMIT run out?
   ach read FILE -o TABLE                  the file's pay table
   ach write TABLE -o FILE                 the file of a pay table
   ach alter FILE ENTRY AMOUNT -o FILE     one entry's amount, with the totals
@@ -29,6 +31,10 @@ FILE, TABLE or LINES may be - for standard input, and -o - is standard output.
 ENTRY counts the entries from 1 through the file, as `ach show` does. AMOUNT is
 1234.56, or 1234 for whole dollars: digits, with no point or a point and two
 digits.
+
+LIMIT is written like AMOUNT. It runs out with the first batch at whose end the
+credits so far are more than LIMIT; debits do not count. If that is no batch, the
+answer is none. Both are granted.
 
 For remove, ENTRY is a number or a range such as 3-7, in any order, and more may
 stand in a file, one a line, behind --list. All are numbers of FILE as it is.
@@ -51,7 +57,9 @@ filled in. A line break at the end of a row's file is NOT stripped: it counts.
   --line       one line: OK batches entries addenda debit credit (in cents), or
                NO number record field (check, read, write, alter, remove,
                import, export; for an import's 29, 30 and 32 the line is the
-               record)
+               record); for funds OK batches record credits: how many batches
+               come up to the one found and with it, the record of its control
+               and the credits so far, or OK batches 0 0 for none
   --           what follows is no option
   --help, --version
 
@@ -103,6 +111,7 @@ pub enum Command {
     Version,
     Check { way: Way, file: Source, line: bool },
     Show { way: Way, file: Source },
+    Funds { way: Way, file: Source, limit: Amount, line: bool },
     Read { way: Way, file: Source, target: Target, line: bool },
     Write { way: Way, table: Source, target: Target, line: bool },
     Alter { way: Way, file: Source, entry: Entry, amount: Amount, target: Target, line: bool },
@@ -234,6 +243,7 @@ impl Given {
                 let [file] = self.take("FILE")?;
                 Command::Show { way: self.way(), file: source(&file) }
             }
+            "funds" => self.funds()?,
             "read" => {
                 let (file, target, line) = self.result_of("FILE")?;
                 Command::Read { way: self.way(), file, target, line }
@@ -271,6 +281,12 @@ impl Given {
     fn result_of(&mut self, name: &str) -> Result<(Source, Target, bool), Trouble> {
         let [word] = self.take(name)?;
         Ok((source(&word), self.target()?, self.flag("--line")))
+    }
+
+    fn funds(&mut self) -> Result<Command, Trouble> {
+        let [file, limit] = self.take("FILE LIMIT")?;
+        let (file, limit) = (source(&file), amount_in_cents(&limit)?);
+        Ok(Command::Funds { way: self.way(), file, limit, line: self.flag("--line") })
     }
 
     fn alter(&mut self) -> Result<Command, Trouble> {
@@ -452,6 +468,7 @@ mod tests {
         for words in [
             "check a",
             "show a",
+            "funds a 1.00",
             "read a -o b",
             "write a -o b",
             "alter a 1 1.00 -o b",
@@ -472,6 +489,7 @@ mod tests {
             match self {
                 Command::Check { way, .. }
                 | Command::Show { way, .. }
+                | Command::Funds { way, .. }
                 | Command::Read { way, .. }
                 | Command::Write { way, .. }
                 | Command::Alter { way, .. }
@@ -537,6 +555,14 @@ mod tests {
             "check a --lined=yes",
             "check a --plain",
             "show a --line",
+            "funds",
+            "funds a",
+            "funds a 1.00 2.00",
+            "funds a 1.5",
+            "funds a -1.00",
+            "funds a 1,000.00",
+            "funds a 1.00 -o b",
+            "funds a 1.00 --in-place",
             "read a",
             "read a -o",
             "read a -o b -o c",

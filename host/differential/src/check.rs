@@ -1,6 +1,7 @@
-//! The check: the same verdict, and the acceptance filled or left alone.
+//! The check: the same verdict, and the acceptance and the rows filled or left alone.
 
-use crate::tally::{Outcome, Tally, PATTERN};
+use crate::rows::{self, Rows};
+use crate::tally::{Outcome, Tally, NO_FILE, PATTERN};
 use crate::{ways, Run};
 use ach::boundary::ach_check;
 use ach::ACCEPTANCE_LENGTH;
@@ -45,47 +46,89 @@ fn both(tally: &mut Tally, about: &str, file: &[u8]) {
     let plain = in_way(tally, about, Way::Plain, file);
     let twin = lined(file);
     let with_ends = in_way(tally, about, Way::Lined, &twin);
-    tally.holds("the same answer in both ways", file, plain == with_ends);
+    tally.holds("the same answer in both ways", file, plain.agrees_with(&with_ends));
 }
 
-/// Puts a file to both sides; the answer and all numbers of the acceptance have to agree.
+/// Puts a file to both sides; the answer, all numbers of the acceptance and the rows have to agree.
+/// An accepted file is put to them once more, with too little room for its rows.
 fn in_way(tally: &mut Tally, about: &str, way: Way, file: &[u8]) -> Verdict {
+    let turn = tally.cases();
+    let rows = independent::rows_of(way, file);
+    let need = rows.as_ref().map_or(0, Vec::len);
+    let verdict = in_room(tally, about, way, file, rows::enough_for(need, turn));
+    if rows.is_ok() {
+        in_room(tally, about, way, file, rows::short_of(need, turn));
+    }
+    verdict
+}
+
+/// Room counts the numbers that are lent for rows.
+fn in_room(tally: &mut Tally, about: &str, way: Way, file: &[u8], room: usize) -> Verdict {
     let number = ways::number(way, tally.cases());
     // SAFETY: the pointer comes from a slice of that length.
-    let given = unsafe { checked(number, file.as_ptr(), file.len()) };
-    tally.compare(about, file, given.clone(), expected(way, file));
+    let given = unsafe { Verdict::of(number, file.as_ptr(), file.len(), room) };
+    let mut lent = rows::untouched(room);
+    let expected = match independent::check_into(way, file, &mut lent) {
+        Ok(held) => Outcome::new(0, numbers_of(&held), &[]),
+        Err(refusal) => Outcome::refused(refusal, &[]),
+    };
+    let rows = Rows::new(&lent);
+    let about = format!("{about}, room {room}");
+    tally.compare(&about, file, given.outcome(), expected.with_rows(&rows));
     given
 }
 
-/// The outcome of the boundary's check.
-///
-/// # Safety
-/// There have to be so many bytes to read at `file`.
-unsafe fn checked(way: u64, file: *const u8, length: usize) -> Verdict {
-    let mut numbers = [PATTERN; ACCEPTANCE_LENGTH];
-    let answer = ach_check(way, file, length, numbers.as_mut_ptr());
-    Outcome { answer, numbers, memory: &[] }
+/// What the boundary's check came to.
+struct Verdict {
+    answer: u64,
+    numbers: [u64; ACCEPTANCE_LENGTH],
+    rows: Rows,
 }
 
-/// The check is lent no memory but the numbers.
-type Verdict = Outcome<'static, ACCEPTANCE_LENGTH>;
+impl Verdict {
+    /// # Safety
+    /// There have to be so many bytes to read at `file`.
+    unsafe fn of(way: u64, file: *const u8, length: usize, room: usize) -> Self {
+        let mut numbers = [PATTERN; ACCEPTANCE_LENGTH];
+        let mut rows = Rows::new(&rows::untouched(room));
+        let list = rows.pointer();
+        let answer = ach_check(way, file, length, numbers.as_mut_ptr(), list, room);
+        Verdict { answer, numbers, rows }
+    }
 
-fn expected(way: Way, file: &[u8]) -> Verdict {
-    let held = match independent::check(way, file) {
-        Ok(held) => held,
-        Err(refusal) => return Outcome::refused(refusal, &[]),
-    };
-    let mut numbers = [held.batches, held.entries, held.addenda, held.debit, held.credit].to_vec();
-    numbers.extend(held.by_code);
-    let numbers = numbers.try_into().expect("5 and 24 are 29");
-    Outcome { answer: 0, numbers, memory: &[] }
+    fn outcome(&self) -> Outcome<'_, ACCEPTANCE_LENGTH> {
+        Outcome::new(self.answer, self.numbers, &[]).with_rows(&self.rows)
+    }
+
+    /// Whether the same was said, and the same rows were given, in whatever room.
+    fn agrees_with(&self, other: &Verdict) -> bool {
+        let rows = |verdict: &Verdict| match verdict.answer {
+            0 => verdict.rows.numbers().get(..2 * verdict.numbers[0] as usize).map(<[_]>::to_vec),
+            _ => None,
+        };
+        let said = |verdict: &Verdict| (verdict.answer, verdict.numbers);
+        said(self) == said(other) && rows(self) == rows(other)
+    }
+}
+
+/// An acceptance as the boundary spells it.
+pub fn numbers_of(held: &independent::Acceptance) -> [u64; ACCEPTANCE_LENGTH] {
+    let mut numbers = [0; ACCEPTANCE_LENGTH];
+    let first = [held.batches, held.entries, held.addenda, held.debit, held.credit];
+    numbers[..5].copy_from_slice(&first);
+    numbers[5..].copy_from_slice(&held.by_code);
+    numbers
 }
 
 fn bad_inputs(tally: &mut Tally) {
     for number in [0].into_iter().chain(ways::SECOND) {
-        // SAFETY: of no bytes none is read, so the pointer to them may be null.
-        let given = unsafe { checked(number, std::ptr::null(), 0) };
-        tally.compare("a null pointer", b"", given, expected(Way::Plain, b""));
+        for room in [0, 1, 2, 100] {
+            // SAFETY: of no bytes none is read, so the pointer to them may be null.
+            let given = unsafe { Verdict::of(number, std::ptr::null(), 0, room) };
+            let rows = Rows::new(&rows::untouched(room));
+            let expected = Outcome::refused(NO_FILE, &[]).with_rows(&rows);
+            tally.compare("a null pointer", b"", given.outcome(), expected);
+        }
     }
     let (file, with_ends) = (sample().file(), sample().lined_file());
     for way in Way::BOTH {
@@ -323,7 +366,8 @@ fn damaged_files(tally: &mut Tally, random: &mut Random, cases: u64) {
     }
 }
 
-/// The largest file there is, one record more, and faults in its last block, in both ways.
+/// The largest file there is, one record more, and faults in its last block, in both ways; then one
+/// with as many batches as there can be.
 fn biggest_files(tally: &mut Tally) {
     let shape = BigFile { records: MOST_RECORDS, entries_in_batch: 400_000, addendum_every: 3 };
     let file = big_file(&shape);
@@ -346,6 +390,8 @@ fn biggest_files(tally: &mut Tally) {
         in_way(tally, "a million records and all but a byte", way, &file[..most + record - 1]);
         in_other_way(tally, way, &file);
     }
+    let shape = BigFile { records: MOST_RECORDS, entries_in_batch: 1, addendum_every: 0 };
+    both(tally, "a million records in small batches", &big_file(&shape));
 }
 
 /// Lengths near the limits of both ways, put to the way that the file does not have: most are none

@@ -1,14 +1,19 @@
-//! Random and damaged bytes to all eight functions of the boundary for as long as asked: each
-//! against the independent implementation, in memory between guards, and against one another.
+//! Random and damaged bytes to all nine functions of the boundary for as long as asked: each against
+//! the independent implementation, in memory between guards, and against one another.
 
+use crate::check::numbers_of;
+use crate::funds::{first_over_limit, spelled};
 use crate::guard::Guarded;
+use crate::rows::{self, Rows};
 use crate::tally::{Outcome, Tally, PATTERN};
 use crate::{ways, Run};
 use ach::boundary::{
-    ach_addendum, ach_alter, ach_check, ach_export, ach_import, ach_read, ach_take_out, ach_write,
+    ach_addendum, ach_alter, ach_check, ach_export, ach_import, ach_read, ach_runs_out,
+    ach_take_out, ach_write,
 };
 use ach::{Refusal, ACCEPTANCE_LENGTH, BATCH_ROW, FILE_ROW};
 use generate::damage::{random_damage, resealed, BORDER_BYTES};
+use generate::funds::{limits, other_lists, random_rows};
 use generate::lines::{lined, random_end_damage};
 use generate::lists::{list_of, random_list_damage, List};
 use generate::remittances::with_prenotes_for_remittances;
@@ -33,11 +38,12 @@ pub fn compare(run: &Run, tally: &mut Tally) {
 /// A call of the boundary with all that it is given beside the bytes.
 #[derive(Debug)]
 enum Question {
-    Check,
+    Check { rows: Vec<u64> },
     Read { room: usize },
     Write { room: usize },
-    Alter { entry: u64, amount: u64 },
-    TakeOut { entries: Vec<u64> },
+    Alter { rows: Vec<u64>, entry: u64, amount: u64 },
+    TakeOut { entries: Vec<u64>, rows: Vec<u64> },
+    RunsOut { rows: Vec<u64>, limit: u64 },
     Addendum { entry: u64 },
     Import { parts: Parts, room: usize },
     Export { room: usize },
@@ -87,27 +93,68 @@ impl Question {
         }
     }
 
+    /// The numbers that are lent as rows, or for them.
+    fn rows(&self) -> &[u64] {
+        match self {
+            Question::Check { rows }
+            | Question::Alter { rows, .. }
+            | Question::TakeOut { rows, .. }
+            | Question::RunsOut { rows, .. } => rows,
+            _ => &[],
+        }
+    }
+
     /// Whether the lent bytes themselves are changed when it is granted.
     fn changes_the_file(&self) -> bool {
         matches!(self, Question::Alter { .. } | Question::TakeOut { .. })
     }
 }
 
-/// All eight, with rooms and numbers around the edges.
-fn questions(random: &mut Random, way: Way, bytes: &[u8]) -> [Question; 8] {
+/// All nine, with rooms and numbers around the edges.
+fn questions(random: &mut Random, way: Way, bytes: &[u8]) -> [Question; 9] {
+    let own = independent::rows_of(way, bytes).unwrap_or_default();
     let entries = entries(random, bytes);
     let entry = entry(random, bytes);
     let parts = Parts::of(random, bytes);
     [
-        Question::Check,
+        Question::Check { rows: rows_for(random, &own) },
         Question::Read { room: room(random, independent::read(way, bytes)) },
         Question::Write { room: room(random, independent::write(way, bytes)) },
-        Question::Alter { entry, amount: amount(random) },
-        Question::TakeOut { entries },
+        Question::Alter { rows: rows_with(random, &own), entry, amount: amount(random) },
+        Question::TakeOut { entries, rows: rows_for(random, &own) },
+        Question::RunsOut { rows: rows_with(random, &own), limit: limit(random, &own) },
         Question::Addendum { entry },
         Question::Import { parts, room: room(random, import(parts, bytes)) },
         Question::Export { room: room(random, independent::export(bytes)) },
     ]
+}
+
+/// Numbers to be lent for a file's rows: as many as they need, more or less, and mostly nobody's.
+fn rows_for(random: &mut Random, own: &[u64]) -> Vec<u64> {
+    match random.below(6) {
+        0 => random_rows(random),
+        1 => vec![0; own.len()],
+        2 => rows::untouched(random.below(own.len() + 1)),
+        _ => rows::untouched(own.len() + random.below(4)),
+    }
+}
+
+/// Rows to be lent with a file: mostly its own, with other numbers behind or without.
+fn rows_with(random: &mut Random, own: &[u64]) -> Vec<u64> {
+    match random.below(8) {
+        0 => random_rows(random),
+        1 if !own.is_empty() => random.pick(&other_lists(own)).clone(),
+        2 => [own, &random_rows(random)].concat(),
+        _ => own.to_vec(),
+    }
+}
+
+fn limit(random: &mut Random, rows: &[u64]) -> u64 {
+    if random.one_in(8) {
+        random.draw()
+    } else {
+        *random.pick(&limits(rows))
+    }
 }
 
 fn room<E>(random: &mut Random, result: Result<Vec<u8>, E>) -> usize {
@@ -233,18 +280,31 @@ const NUMBERS: usize = ACCEPTANCE_LENGTH;
 /// Puts a question to both sides, twice: what lies around the lent memory must not matter.
 fn ask(tally: &mut Tally, way: Way, question: &Question, bytes: &[u8]) {
     let about = format!("{way:?} {question:?}");
-    let (answer, numbers, memory) = expected(way, question, bytes);
+    let (mut memory, mut left) = (lent_for(question, bytes), question.rows().to_vec());
+    let (answer, numbers) = expected(way, question, bytes, &mut memory, &mut left);
+    let left = Rows::new(&left);
     for guard in [b'9', 0x5A] {
         let number = ways::number(way, tally.cases());
         let mut lent = Guarded::new(bytes, guard);
         let mut room = Guarded::new(&vec![EMPTY; question.room()], guard);
-        let (given, given_numbers) = put(number, question, &mut lent, &mut room);
+        let mut rows = Rows::new(question.rows());
+        let (given, given_numbers) = put(number, question, &mut lent, &mut room, &mut rows);
         let written = if question.changes_the_file() { lent.content() } else { room.content() };
-        let given = Outcome { answer: given, numbers: given_numbers, memory: written };
-        tally.compare(&about, bytes, given, Outcome { answer, numbers, memory: &memory });
+        let given = Outcome::new(given, given_numbers, written).with_rows(&rows);
+        let due = Outcome::new(answer, numbers, &memory).with_rows(&left);
+        tally.compare(&about, bytes, given, due);
         let whole = lent.is_whole() && room.is_whole();
         let kept = question.changes_the_file() || lent.content() == bytes;
         tally.holds(&format!("{about}: only lent memory is written to"), bytes, whole && kept);
+    }
+}
+
+/// The bytes that a question may change: the file, or the room for a result.
+fn lent_for(question: &Question, bytes: &[u8]) -> Vec<u8> {
+    if question.changes_the_file() {
+        bytes.to_vec()
+    } else {
+        vec![EMPTY; question.room()]
     }
 }
 
@@ -254,81 +314,89 @@ fn put(
     question: &Question,
     lent: &mut Guarded<u8>,
     room: &mut Guarded<u8>,
+    rows: &mut Rows,
 ) -> (u64, [u64; NUMBERS]) {
     let (file, length) = (lent.pointer(), lent.content().len());
     let (space, size) = (room.pointer(), room.content().len());
+    let (list, list_room) = (rows.pointer(), rows.numbers().len());
     let mut numbers = [PATTERN; NUMBERS];
-    let [first, second, ..] = &mut numbers;
+    let first = numbers.as_mut_ptr();
     // SAFETY: the pointers are to as many bytes and numbers as the calls are told, and apart.
     let answer = unsafe {
         match question {
-            Question::Check => ach_check(way, file, length, numbers.as_mut_ptr()),
+            Question::Check { .. } => ach_check(way, file, length, first, list, list_room),
             Question::Read { .. } => ach_read(way, file, length, space, size, first),
             Question::Write { .. } => ach_write(way, file, length, space, size, first),
-            Question::Addendum { entry } => ach_addendum(way, file, length, *entry, first, second),
+            Question::Addendum { entry } => {
+                ach_addendum(way, file, length, *entry, first, first.add(1))
+            }
             Question::Export { .. } => ach_export(file, length, space, size, first),
-            Question::TakeOut { entries } => {
-                ach_take_out(way, file, length, entries.as_ptr(), entries.len(), first)
+            Question::RunsOut { limit, .. } => ach_runs_out(list, list_room, *limit, first),
+            Question::TakeOut { entries, .. } => {
+                let (numbers, count) = (entries.as_ptr(), entries.len());
+                ach_take_out(way, file, length, numbers, count, list, list_room, first)
             }
             Question::Import { parts, .. } => {
                 let [file_row, batch_row, lines] = parts.split(lent.content());
                 let (one, other) = (file_row.as_ptr(), batch_row.as_ptr());
                 let (one_length, other_length) = (file_row.len(), batch_row.len());
-                let (list, n) = (lines.as_ptr(), lines.len());
-                ach_import(one, one_length, other, other_length, list, n, space, size, first)
+                let (lines, n) = (lines.as_ptr(), lines.len());
+                ach_import(one, one_length, other, other_length, lines, n, space, size, first)
             }
-            Question::Alter { entry, amount } => {
-                let mut difference = PATTERN as i64;
-                let answer = ach_alter(way, file, length, *entry, *amount, &mut difference);
-                *first = difference as u64;
-                answer
+            Question::Alter { entry, amount, .. } => {
+                let difference = first.cast();
+                ach_alter(way, file, length, list, list_room, *entry, *amount, difference)
             }
         }
     };
     (answer, numbers)
 }
 
-type Expected = (u64, [u64; NUMBERS], Vec<u8>);
-
-/// What the independent implementation makes of the question.
-fn expected(way: Way, question: &Question, bytes: &[u8]) -> Expected {
-    let mut memory =
-        if question.changes_the_file() { bytes.to_vec() } else { vec![EMPTY; question.room()] };
+/// What the independent implementation makes of the question: its answer, the numbers that it gives,
+/// and what it leaves of the lent memory and the lent rows.
+fn expected(
+    way: Way,
+    question: &Question,
+    bytes: &[u8],
+    memory: &mut [u8],
+    rows: &mut [u64],
+) -> (u64, [u64; NUMBERS]) {
     let length = |length: usize| vec![length as u64];
     let outcome = match question {
-        Question::Check => independent::check(way, bytes).map(|held| numbers_of(&held).to_vec()),
-        Question::Read { .. } => independent::read_into(way, bytes, &mut memory).map(length),
-        Question::Write { .. } => independent::write_into(way, bytes, &mut memory).map(length),
-        Question::Export { .. } => independent::export_into(bytes, &mut memory).map(length),
+        Question::Check { .. } => {
+            independent::check_into(way, bytes, rows).map(|held| numbers_of(&held).to_vec())
+        }
+        Question::Read { .. } => independent::read_into(way, bytes, memory).map(length),
+        Question::Write { .. } => independent::write_into(way, bytes, memory).map(length),
+        Question::Export { .. } => independent::export_into(bytes, memory).map(length),
         Question::Import { parts, .. } => {
             let [file_row, batch_row, lines] = parts.split(bytes);
-            independent::import_into(file_row, batch_row, lines, &mut memory).map(length)
+            independent::import_into(file_row, batch_row, lines, memory).map(length)
         }
-        Question::Alter { entry, amount } => {
-            let altered = independent::alter(way, &mut memory, *entry, *amount);
+        Question::Alter { entry, amount, .. } => {
+            let altered = independent::alter(way, memory, rows, *entry, *amount);
             altered.map(|difference| vec![difference as u64])
         }
-        Question::TakeOut { entries } => {
-            independent::take_out(way, &mut memory, entries).map(length)
+        Question::TakeOut { entries, .. } => {
+            independent::take_out(way, memory, entries, rows).map(length)
+        }
+        Question::RunsOut { limit, .. } => {
+            let (over, answer) = spelled(independent::runs_out(rows, *limit));
+            return (over, first_of(&answer));
         }
         Question::Addendum { entry } => independent::addendum(way, bytes, *entry)
             .map(|(start, length)| vec![start as u64, length as u64]),
     };
-    let mut numbers = [PATTERN; NUMBERS];
     match outcome {
-        Ok(written) => {
-            numbers[..written.len()].copy_from_slice(&written);
-            (0, numbers, memory)
-        }
-        Err(refusal) => (crate::tally::answer(refusal), numbers, memory),
+        Ok(given) => (0, first_of(&given)),
+        Err(refusal) => (crate::tally::answer(refusal), [PATTERN; NUMBERS]),
     }
 }
 
-fn numbers_of(held: &independent::Acceptance) -> [u64; NUMBERS] {
-    let mut numbers = [0; NUMBERS];
-    let first = [held.batches, held.entries, held.addenda, held.debit, held.credit];
-    numbers[..5].copy_from_slice(&first);
-    numbers[5..].copy_from_slice(&held.by_code);
+/// The numbers that are given, and those behind them, to which nothing is given.
+fn first_of(given: &[u64]) -> [u64; NUMBERS] {
+    let mut numbers = [PATTERN; NUMBERS];
+    numbers[..given.len()].copy_from_slice(given);
     numbers
 }
 
@@ -345,6 +413,9 @@ fn relations(tally: &mut Tally, random: &mut Random, asked: Way, bytes: &[u8]) {
             tally.holds("altered", bytes, alteration_fits(way, bytes, entry, amount));
             let list = entries(random, bytes);
             tally.holds("taken out", bytes, taking_out_fits(way, bytes, &list));
+            let rows = ach::rows_of(way, bytes).unwrap_or_default();
+            let limit = limit(random, &rows);
+            tally.holds("where it runs out", bytes, first_over_limit(&rows, limit));
         }
         Err(refusal) => tally.holds("refused alike", bytes, refused_alike(way, bytes, refusal)),
     }
@@ -364,36 +435,50 @@ fn relations(tally: &mut Tally, random: &mut Random, asked: Way, bytes: &[u8]) {
 fn refused_alike(way: ach::Way, bytes: &[u8], refusal: Refusal) -> bool {
     let mut lent = bytes.to_vec();
     ach::table_of(way, bytes) == Err(refusal)
-        && ach::alter(way, &mut lent, 1, 1) == Err(refusal)
-        && ach::take_out(way, &mut lent, &[1]) == Err(refusal)
+        && ach::check_into(way, bytes, &mut []) == Err(refusal)
+        && ach::alter(way, &mut lent, &mut [], 1, 1) == Err(refusal)
+        && ach::take_out(way, &mut lent, &[1], &mut []) == Err(refusal)
         && ach::addendum(way, bytes, 1) == Err(refusal)
         && lent == bytes
 }
 
-/// Altered, a file is accepted, its totals differ by what was said, and it can be altered back.
+/// Altered, a file is accepted, its totals differ by what was said, its rows are its own, and it can
+/// be altered back.
 fn alteration_fits(way: ach::Way, bytes: &[u8], entry: u64, amount: u64) -> bool {
-    let mut file = bytes.to_vec();
-    let Ok(difference) = ach::alter(way, &mut file, entry, amount) else {
-        return file == bytes;
+    let Ok(own) = ach::rows_of(way, bytes) else {
+        return false;
+    };
+    let (mut file, mut rows) = (bytes.to_vec(), own.clone());
+    let Ok(difference) = ach::alter(way, &mut file, &mut rows, entry, amount) else {
+        return file == bytes && rows == own;
     };
     let (Ok(before), Ok(after)) = (ach::check(way, bytes), ach::check(way, &file)) else {
         return false;
     };
     let money = |held: ach::Acceptance| held.credit as i64 + held.debit as i64;
-    let back = ach::alter(way, &mut file, entry, (amount as i64 - difference) as u64);
-    money(after) - money(before) == difference && back == Ok(-difference) && file == bytes
+    let kept = ach::rows_of(way, &file).as_ref() == Ok(&rows);
+    let old = (amount as i64 - difference) as u64;
+    let back = ach::alter(way, &mut file, &mut rows, entry, old);
+    let is_back = back == Ok(-difference) && file == bytes && rows == own;
+    money(after) - money(before) == difference && kept && is_back
 }
 
-/// With entries taken out, a file is the one that is written from the table without their rows.
+/// With entries taken out, a file is the one that is written from the table without their rows, and
+/// has its own rows in front of those lent.
 fn taking_out_fits(way: ach::Way, bytes: &[u8], list: &[u64]) -> bool {
-    let mut file = bytes.to_vec();
-    let Ok(length) = ach::take_out(way, &mut file, list) else {
-        return file == bytes;
+    let Ok(own) = ach::rows_of(way, bytes) else {
+        return false;
     };
-    let Ok(table) = ach::table_of(way, bytes) else {
+    let (mut file, mut rows) = (bytes.to_vec(), own.clone());
+    let Ok(length) = ach::take_out(way, &mut file, list, &mut rows) else {
+        return file == bytes && rows == own;
+    };
+    let (Ok(table), Ok(left)) = (ach::table_of(way, bytes), ach::rows_of(way, &file[..length]))
+    else {
         return false;
     };
     let rest = without_entries(&table, list);
     ach::file_of(way, &rest).as_deref() == Ok(&file[..length])
         && file[length..].iter().all(|byte| *byte == b' ')
+        && rows == [&left, &own[left.len()..]].concat()
 }

@@ -23,6 +23,11 @@ impl<T: Copy + PartialEq> Guarded<T> {
         &self.memory[GUARD..self.memory.len() - GUARD]
     }
 
+    /// The content with the guards around it.
+    pub fn all(&self) -> &[T] {
+        &self.memory
+    }
+
     pub fn is_whole(&self) -> bool {
         let (front, back) = (&self.memory[..GUARD], &self.memory[self.memory.len() - GUARD..]);
         front.iter().chain(back).all(|item| *item == self.guard)

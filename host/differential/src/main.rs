@@ -1,6 +1,6 @@
-//! `differential check | readwrite | alter | takeout | lines | longlines | fuzz SECONDS`: puts the
-//! same cases to the proved library and to the independent implementation, and ends with a line of
-//! how many there were and how many differed. Files are put to them in both ways; the same records
+//! `differential check | readwrite | alter | takeout | funds | lines | longlines | fuzz SECONDS`: puts
+//! the same cases to the proved library and to the independent implementation, and ends with a line
+//! of how many there were and how many differed. Files are put to them in both ways; the same records
 //! in both ways have to be answered alike.
 //!
 //! ACH_SEED chooses other random cases, ACH_CASES how many of them there are. A fuzz run without
@@ -8,11 +8,13 @@
 
 mod alter;
 mod check;
+mod funds;
 mod fuzz;
 mod guard;
 mod lines;
 mod read_write;
 mod rooms;
+mod rows;
 mod take_out;
 mod tally;
 mod ways;
@@ -41,12 +43,13 @@ fn main() -> ExitCode {
         ("readwrite", None) => read_write::compare,
         ("alter", None) => alter::compare,
         ("takeout", None) => take_out::compare,
+        ("funds", None) => funds::compare,
         ("lines", None) => lines::compare,
         ("longlines", None) => lines::compare_longest,
         ("fuzz", Some(_)) => fuzz::compare,
         _ => {
-            let parts = "check | readwrite | alter | takeout | lines | longlines | fuzz SECONDS";
-            eprintln!("usage: differential {parts}");
+            let parts = "check | readwrite | alter | takeout | funds | lines | longlines";
+            eprintln!("usage: differential {parts} | fuzz SECONDS");
             return ExitCode::from(2);
         }
     };

@@ -98,7 +98,7 @@ fn bad_inputs(tally: &mut Tally) {
             let (input, room) = (std::ptr::null(), std::ptr::null_mut());
             // SAFETY: of no bytes none is read or written, so the pointers to them may be null.
             let answer = unsafe { call(way, input, 0, room, 0, &mut length) };
-            let given = Outcome { answer, numbers: [length], memory: &[] };
+            let given = Outcome::new(answer, [length], &[]);
             let refusal = Refusal { number, record: 0, field: 0 };
             tally.compare("null pointers", b"", given, Outcome::refused(refusal, &[]));
         }

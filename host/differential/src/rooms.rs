@@ -33,13 +33,13 @@ pub fn in_room(
     let mut lent = vec![PATTERN_BYTE; room];
     let mut length = PATTERN;
     let answer = call(lent.as_mut_ptr(), room, &mut length);
-    let given = Outcome { answer, numbers: [length], memory: &lent };
+    let given = Outcome::new(answer, [length], &lent);
 
     let mut memory = vec![PATTERN_BYTE; room];
     let expected = match result {
         Ok(bytes) if bytes.len() <= room => {
             memory[..bytes.len()].copy_from_slice(bytes);
-            Outcome { answer: 0, numbers: [bytes.len() as u64], memory: &memory }
+            Outcome::new(0, [bytes.len() as u64], &memory)
         }
         Ok(_) => Outcome::refused(NO_ROOM, &memory),
         Err(refusal) => Outcome::refused(refusal, &memory),

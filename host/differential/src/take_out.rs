@@ -1,7 +1,8 @@
-//! Taking entries out: the same answers and the same bytes, and the file as if written without the
-//! entries.
+//! Taking entries out: the same answers, the same bytes and the same rows, and the file as if written
+//! without the entries.
 
 use crate::guard::Guarded;
+use crate::rows::{self, Rows};
 use crate::tally::{Outcome, Tally, PATTERN};
 use crate::{ways, Run};
 use ach::boundary::ach_take_out;
@@ -45,31 +46,35 @@ struct Call {
     answer: u64,
     length: u64,
     file: Guarded<u8>,
+    rows: Rows,
 }
 
 impl Call {
-    /// Lends copies of file and list between guards, and counts that nothing else was written to.
-    fn of(tally: &mut Tally, way: Way, file: &[u8], list: &[u64]) -> Self {
+    /// Lends copies of file and list, and room for rows, between guards, and counts that nothing else
+    /// was written to.
+    fn of(tally: &mut Tally, way: Way, file: &[u8], list: &[u64], room: usize) -> Self {
         // Every call counts two cases, and all numbers of the second way are to take turns.
         let number = ways::number(way, tally.cases() / 2);
         let mut lent = Guarded::new(file, b'6');
         let mut numbers = Guarded::new(list, 1);
         let mut length = Guarded::new(&[PATTERN], PATTERN);
+        let mut rows = Rows::new(&rows::untouched(room));
         // To nothing the pointer may be null.
         let bytes = if file.is_empty() { null_mut() } else { lent.pointer() };
         let entries = if list.is_empty() { null_mut() } else { numbers.pointer() };
+        let (space, count, given) = (rows.pointer(), list.len(), length.pointer());
         // SAFETY: the pointers are to as many bytes and numbers as the call is told, and apart.
-        let answer = unsafe {
-            ach_take_out(number, bytes, file.len(), entries, list.len(), length.pointer())
-        };
+        let answer =
+            unsafe { ach_take_out(number, bytes, file.len(), entries, count, space, room, given) };
         let whole = lent.is_whole() && numbers.is_whole() && length.is_whole();
         let kept = whole && numbers.content() == list;
-        tally.holds("only the file and the length are written to", file, kept);
-        Call { answer, length: length.content()[0], file: lent }
+        tally.holds("only the file, the length and the rows are written to", file, kept);
+        Call { answer, length: length.content()[0], file: lent, rows }
     }
 
     fn outcome(&self) -> Outcome<'_, 1> {
-        Outcome { answer: self.answer, numbers: [self.length], memory: self.file.content() }
+        let outcome = Outcome::new(self.answer, [self.length], self.file.content());
+        outcome.with_rows(&self.rows)
     }
 
     /// What is left of the file, and what stands behind it; nothing if it was refused.
@@ -79,38 +84,63 @@ impl Call {
     }
 }
 
-/// Puts a list to both sides: the same answer, the same length, and the same bytes everywhere.
-fn in_way(tally: &mut Tally, about: &str, way: Way, file: &[u8], list: &[u64]) -> Call {
-    let mut memory = file.to_vec();
-    let taken = independent::take_out(way, &mut memory, list);
+/// Puts a list to both sides with room for as many rows as the file has, and by turns more or less.
+fn in_way(tally: &mut Tally, about: &str, way: Way, file: &[u8], list: &[u64]) {
+    let turn = tally.cases() / 2;
+    let need = independent::rows_of(way, file).map_or(0, |rows| rows.len());
+    let room = match turn % 2 {
+        0 => rows::enough_for(need, turn / 2),
+        _ => rows::short_of(need, turn / 2),
+    };
+    in_room(tally, about, way, file, list, room);
+}
+
+/// Puts a list to both sides with so many numbers for rows: the same answer, the same length, the
+/// same rows and the same bytes everywhere.
+fn in_room(
+    tally: &mut Tally,
+    about: &str,
+    way: Way,
+    file: &[u8],
+    list: &[u64],
+    room: usize,
+) -> Call {
+    let (mut memory, mut rows) = (file.to_vec(), rows::untouched(room));
+    let taken = independent::take_out(way, &mut memory, list, &mut rows);
     let expected = match taken {
-        Ok(length) => Outcome { answer: 0, numbers: [length as u64], memory: &memory },
+        Ok(length) => Outcome::new(0, [length as u64], &memory),
         Err(refusal) => Outcome::refused(refusal, file),
     };
-    let call = Call::of(tally, way, file, list);
-    let about =
-        format!("{about}, {way:?}, list of {}: {:?}", list.len(), &list[..list.len().min(20)]);
-    tally.compare(&about, file, call.outcome(), expected);
+    let call = Call::of(tally, way, file, list, room);
+    let first = &list[..list.len().min(20)];
+    let about = format!("{about}, {way:?}, room {room}, list of {}: {first:?}", list.len());
+    let rows = Rows::new(&rows);
+    tally.compare(&about, file, call.outcome(), expected.with_rows(&rows));
     call
 }
 
-/// Puts the file of a plan to both sides in both ways. What comes of it has to be right whatever
-/// either of them says.
+/// Puts the file of a plan to both sides in both ways, with room for the rows of what is left and
+/// with less. What comes of it has to be right whatever either of them says.
 fn of_plan(tally: &mut Tally, about: &str, plan: &Plan, list: &[u64]) {
     let file = plan.file();
-    let calls = Way::BOTH.map(|way| {
-        let call = in_way(tally, about, way, &ways::in_way(way, &file), list);
-        (way, call)
-    });
     let rest = plan.without(list);
+    let need = 2 * rest.batches.len();
     let due = due(plan, &rest, list);
-    for (_, call) in &calls {
+    for way in Way::BOTH {
+        let file = ways::in_way(way, &file);
+        let turn = tally.cases() / 2;
+        let short = rows::short_of(need, turn);
+        let call = in_room(tally, about, way, &file, list, short);
+        // Room comes last, and no rows are due where no entry is left.
+        let due_there = if due == 0 { 23 } else { due };
+        tally.holds("granted or refused as due", &file, call.answer == due_there);
+
+        let room = rows::enough_for(need, turn);
+        let call = in_room(tally, about, way, &file, list, room);
         tally.holds("granted or refused as due", &file, call.answer == due);
-    }
-    if due == 0 {
-        let table = without_entries(&plan.table(), list);
-        let left = Left { file: rest.file(), table, counts: counts(&rest) };
-        calls.iter().for_each(|(way, call)| left.by(tally, *way, call));
+        if due == 0 {
+            Left::of(plan, &rest, list).by(tally, way, &call);
+        }
     }
 }
 
@@ -130,17 +160,24 @@ fn due(plan: &Plan, rest: &Plan, list: &[u64]) -> u64 {
 /// rows.
 struct Left {
     file: Vec<u8>,
+    rows: Vec<u64>,
     table: Vec<u8>,
     counts: Counts,
 }
 
 impl Left {
+    fn of(plan: &Plan, rest: &Plan, list: &[u64]) -> Self {
+        let table = without_entries(&plan.table(), list);
+        Left { file: rest.file(), rows: rest.rows(), table, counts: counts(rest) }
+    }
+
     /// It is left by this call, is accepted, and is what the library reads and writes as that table.
     fn by(&self, tally: &mut Tally, way: Way, call: &Call) {
         let (rest, behind) = call.parts().unwrap_or_default();
         let rendered = ways::in_way(way, &self.file);
         tally.holds("rendered without the entries", rest, rest == rendered);
         tally.holds("blanks behind it", rest, behind.iter().all(|byte| *byte == b' '));
+        tally.holds("with its rows", rest, call.rows.numbers().starts_with(&self.rows));
         let way = ways::of_library(way);
         let held = ach::check(way, rest)
             .map(|held| (held.batches, held.entries, held.addenda, held.debit, held.credit));
@@ -299,8 +336,10 @@ fn biggest_files(tally: &mut Tally) {
     lists.push((1..=entries + 1).collect());
     for way in Way::BOTH {
         let file = ways::in_way(way, &file);
+        let need = independent::rows_of(way, &file).map_or(0, |rows| rows.len());
         for list in &lists {
-            in_way(tally, "a million records", way, &file, list);
+            in_room(tally, "a million records", way, &file, list, need);
+            in_room(tally, "a million records", way, &file, list, 1);
         }
     }
 }

@@ -1,5 +1,6 @@
 //! Counts cases, and reports those in which the two sides differ.
 
+use crate::rows::Rows;
 use independent::Refusal;
 use std::path::PathBuf;
 
@@ -9,17 +10,31 @@ const MOST_REPORTS: u64 = 10;
 /// What lent numbers hold before a call, to be found there again after a refusal.
 pub const PATTERN: u64 = 0x25A5_5A5A_C3C3_3C3C;
 
-/// What a call came to: its answer, and what the lent numbers and the lent memory hold afterwards.
+/// No bytes are no file.
+pub const NO_FILE: Refusal = Refusal { number: 1, record: 0, field: 0 };
+
+/// What a call came to: its answer, and what the lent numbers, the lent memory and the lent rows hold
+/// afterwards.
 #[derive(Clone, PartialEq)]
 pub struct Outcome<'m, const N: usize> {
     pub answer: u64,
     pub numbers: [u64; N],
     pub memory: &'m [u8],
+    rows: &'m [u64],
 }
 
 impl<'m, const N: usize> Outcome<'m, N> {
+    /// Of a call that is lent no rows.
+    pub fn new(answer: u64, numbers: [u64; N], memory: &'m [u8]) -> Self {
+        Outcome { answer, numbers, memory, rows: &[] }
+    }
+
     pub fn refused(refusal: Refusal, memory: &'m [u8]) -> Self {
-        Outcome { answer: answer(refusal), numbers: [PATTERN; N], memory }
+        Outcome::new(answer(refusal), [PATTERN; N], memory)
+    }
+
+    pub fn with_rows(self, rows: &'m Rows) -> Self {
+        Outcome { rows: rows.all(), ..self }
     }
 }
 
@@ -55,7 +70,8 @@ impl Tally {
             println!("difference {}: {about}", self.differences);
             println!("given    {}", described(&given));
             println!("expected {}", described(&expected));
-            report_memory(given.memory, expected.memory);
+            report_memory("memory", given.memory, expected.memory);
+            report_memory("rows", given.rows, expected.rows);
             self.keep_input(input);
         }
     }
@@ -87,10 +103,10 @@ impl Tally {
     }
 }
 
-fn report_memory(given: &[u8], expected: &[u8]) {
+fn report_memory<T: PartialEq>(name: &str, given: &[T], expected: &[T]) {
     if given != expected {
         let same = given.iter().zip(expected).take_while(|(one, other)| one == other);
-        println!("the lent memory differs from offset {} on", same.count());
+        println!("the lent {name} differ from offset {} on", same.count());
     }
 }
 

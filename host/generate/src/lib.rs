@@ -6,6 +6,7 @@
 
 pub mod columns;
 pub mod damage;
+pub mod funds;
 pub mod lines;
 pub mod lists;
 mod plan;

@@ -101,6 +101,21 @@ impl Plan {
         rest
     }
 
+    /// The list that goes with the file: for each batch its control's record number, and the credits
+    /// of all entries up to there.
+    pub fn rows(&self) -> Vec<u64> {
+        // Record 1 is the file's header.
+        let (mut record, mut credits) = (1, 0);
+        let row = |batch: &Batch| {
+            let mut totals = Totals::default();
+            batch.entries.iter().for_each(|entry| totals.add(entry));
+            record += 2 + totals.records;
+            credits += totals.credit;
+            [record, credits]
+        };
+        self.batches.iter().flat_map(row).collect()
+    }
+
     pub fn entry_count(&self) -> usize {
         self.batches.iter().map(|batch| batch.entries.len()).sum()
     }

@@ -1,6 +1,6 @@
 //! Questions about one entry of a file: its addendum, and a new amount for it.
 
-use crate::check::{check, LARGEST_TOTAL};
+use crate::check::{check, checked, LARGEST_TOTAL};
 use crate::code::{Code, Side};
 use crate::field::{value, Field};
 use crate::layout::*;
@@ -9,8 +9,9 @@ use crate::records::{Records, Way};
 
 /// Where an entry's addendum text lies in the file, as offset and length; (0, 0) if it has none.
 pub fn addendum(way: Way, file: &[u8], entry: u64) -> Result<(usize, usize), Refusal> {
+    let held = check(way, file)?;
     let records = Records::of(way, file)?;
-    let index = find_entry(way, file, entry)?;
+    let index = find_entry(records, held.entries, entry)?;
     if entry::ADDENDUM.of(records.get(index)) != b"1" {
         return Ok((0, 0));
     }
@@ -19,10 +20,46 @@ pub fn addendum(way: Way, file: &[u8], entry: u64) -> Result<(usize, usize), Ref
     Ok((start, text.of(records.get(index + 1)).len()))
 }
 
-/// Gives an entry a new amount and brings the totals along; tells the new amount less the old.
-pub fn alter(way: Way, file: &mut [u8], entry: u64, amount: u64) -> Result<i64, Refusal> {
+/// Gives an entry a new amount and brings the totals along, and the file's list, which has to stand
+/// in front of the lent numbers; tells the new amount less the old.
+pub fn alter(
+    way: Way,
+    file: &mut [u8],
+    lent: &mut [u64],
+    entry: u64,
+    amount: u64,
+) -> Result<i64, Refusal> {
+    let (held, rows) = checked(way, file)?;
+    if !lent.starts_with(&rows) {
+        return Err(Refusal::without_place(reason::NOT_ITS_LIST));
+    }
+    let entry_index = find_entry(Records::of(way, file)?, held.entries, entry)?;
+    let Altered { code, batch_index, difference } = alter_amount(way, file, entry_index, amount)?;
+    if code.side == Side::Credit {
+        // The credits so far are others from the entry's batch on.
+        let behind = |row: &&mut [u64]| row[0] > batch_index as u64;
+        for row in lent[..rows.len()].chunks_exact_mut(2).filter(behind) {
+            row[1] = row[1].wrapping_add_signed(difference);
+        }
+    }
+    Ok(difference)
+}
+
+/// What was altered in a file.
+struct Altered {
+    code: Code,
+    batch_index: usize,
+    difference: i64,
+}
+
+/// Alters the entry in this record of a checked file, and the totals of its side.
+fn alter_amount(
+    way: Way,
+    file: &mut [u8],
+    entry_index: usize,
+    amount: u64,
+) -> Result<Altered, Refusal> {
     let records = Records::of(way, file)?;
-    let entry_index = find_entry(way, file, entry)?;
     let batch_index = next_of_type(records, entry_index, b'8');
     let file_index = next_of_type(records, batch_index, b'9');
 
@@ -55,21 +92,20 @@ pub fn alter(way: Way, file: &mut [u8], entry: u64, amount: u64) -> Result<i64, 
         let columns = &mut file[way.columns(index)];
         field.put_number(columns.try_into().expect("a record has its columns"), number);
     }
-    Ok(amount as i64 - old_amount as i64)
+    Ok(Altered { code, batch_index, difference: amount as i64 - old_amount as i64 })
 }
 
 fn refusal(number: u8, index: usize, field: Field) -> Refusal {
     field.fault(number).at(index as u64 + 1)
 }
 
-/// The index of the record that holds an entry, in a file that passes the check.
-fn find_entry(way: Way, file: &[u8], entry: u64) -> Result<usize, Refusal> {
-    let acceptance = check(way, file)?;
-    if !(1..=acceptance.entries).contains(&entry) {
+/// The index of the record that holds an entry, in a checked file of so many entries.
+fn find_entry(records: Records, entries: u64, entry: u64) -> Result<usize, Refusal> {
+    if !(1..=entries).contains(&entry) {
         return Err(Refusal::without_place(reason::NO_SUCH_ENTRY));
     }
     let entries_before = entry as usize - 1;
-    let index = Records::of(way, file)?
+    let index = records
         .iter()
         .enumerate()
         .filter(|(_, record)| record[0] == b'6')

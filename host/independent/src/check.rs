@@ -11,6 +11,11 @@ const HASH_MODULUS: u64 = 10_000_000_000;
 
 /// Tells what an ACH file of this way holds, or the first reason why it is none.
 pub fn check(way: Way, file: &[u8]) -> Result<Acceptance, Refusal> {
+    checked(way, file).map(|(held, _)| held)
+}
+
+/// What the file holds, and the list that goes with it.
+pub(crate) fn checked(way: Way, file: &[u8]) -> Result<(Acceptance, Vec<u64>), Refusal> {
     let records = Records::of(way, file)?;
     let mut checker = Checker::new();
     let mut allowed: &[u8] = b"1";
@@ -22,7 +27,7 @@ pub fn check(way: Way, file: &[u8]) -> Result<Acceptance, Refusal> {
         require_end(ended, number)?;
         if record[0] == b'9' {
             check_fillers(records, number)?;
-            return Ok(checker.acceptance);
+            return Ok((checker.acceptance, checker.rows));
         }
     }
     Err(data_end(records))
@@ -102,6 +107,8 @@ struct Checker<'f> {
     batch: Batch<'f>,
     sums: Sums,
     acceptance: Acceptance,
+    /// For each batch its control's record number and the credits so far.
+    rows: Vec<u64>,
 }
 
 /// Stands in for the header of the batch before the first one.
@@ -119,6 +126,7 @@ impl<'f> Checker<'f> {
             },
             sums: Sums::default(),
             acceptance: Acceptance::default(),
+            rows: Vec::new(),
         }
     }
 
@@ -129,7 +137,7 @@ impl<'f> Checker<'f> {
             b'5' => self.batch_header(record).map(|()| b"6".as_slice()),
             b'6' => self.entry(record),
             b'7' => self.addendum(record).map(|()| b"68".as_slice()),
-            b'8' => self.batch_control(record).map(|()| b"59".as_slice()),
+            b'8' => self.batch_control(number, record).map(|()| b"59".as_slice()),
             _ => self.file_control(number, record).map(|()| b"".as_slice()),
         }
     }
@@ -227,7 +235,7 @@ impl<'f> Checker<'f> {
         Ok(())
     }
 
-    fn batch_control(&mut self, record: &Record) -> Result<(), Fault> {
+    fn batch_control(&mut self, number: u64, record: &Record) -> Result<(), Fault> {
         use batch_control::*;
         let sums = self.batch.sums;
         self.as_in_header(record, CLASS, batch_header::CLASS)?;
@@ -241,6 +249,7 @@ impl<'f> Checker<'f> {
         self.as_in_header(record, ORIGINATOR, batch_header::ORIGINATOR)?;
         self.as_in_header(record, BATCH_NUMBER, batch_header::BATCH_NUMBER)?;
         self.sums.add(sums);
+        self.rows.extend([number, self.sums.credit]);
         Ok(())
     }
 

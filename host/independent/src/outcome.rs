@@ -35,6 +35,8 @@ pub mod reason {
     pub const NO_LINE: u8 = 29;
     pub const LINE_AMOUNT: u8 = 30;
     pub const LINE_FIELD_LENGTH: u8 = 32;
+    /// What is lent with an alteration does not begin with the file's list.
+    pub const NOT_ITS_LIST: u8 = 34;
 }
 
 /// Why something was refused, and where; record and field are 0 where there is no place to name.

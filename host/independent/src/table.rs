@@ -201,7 +201,7 @@ pub struct Controls {
     pub count: u64,
     hash: u64,
     debit: u64,
-    credit: u64,
+    pub credit: u64,
 }
 
 /// Puts a file together, record by record.

@@ -3,15 +3,23 @@
 use crate::check::check;
 use crate::layout::*;
 use crate::outcome::{reason, Refusal};
-use crate::records::Way;
+use crate::records::{Records, Way};
 use crate::table::Controls;
 
 /// Takes entries out, with their addenda and with the batches that they leave empty, and corrects
-/// the controls and the fillers. Tells the new length; from there on the lent file is blanks.
-pub fn take_out(way: Way, file: &mut [u8], entries: &[u64]) -> Result<usize, Refusal> {
+/// the controls and the fillers. Tells the new length; from there on the lent file is blanks. The
+/// list of what is left goes to the front of the lent rows.
+pub fn take_out(
+    way: Way,
+    file: &mut [u8],
+    entries: &[u64],
+    rows: &mut [u64],
+) -> Result<usize, Refusal> {
     let held = check(way, file)?;
     let recalled = recalled(entries, held.entries)?;
-    let mut closing = Closing::new(way, file);
+    let batches = batches_left(Records::of(way, file)?, &recalled);
+    let rows = rows.get_mut(..2 * batches).ok_or(Refusal::without_place(reason::ROOM))?;
+    let mut closing = Closing::new(way, file, rows);
     let mut entries_before = 0;
     let mut taken = false;
     for index in 0.. {
@@ -52,6 +60,21 @@ fn recalled(list: &[u64], entries: u64) -> Result<Vec<bool>, Refusal> {
     }
 }
 
+/// How many batches keep an entry.
+fn batches_left(records: Records, recalled: &[bool]) -> usize {
+    let mut recalled = recalled.iter();
+    let (mut batches, mut keeps_one) = (0, false);
+    for record in records.iter() {
+        match record[0] {
+            b'5' => keeps_one = false,
+            b'6' => keeps_one |= recalled.next() == Some(&false),
+            b'8' => batches += usize::from(keeps_one),
+            _ => (),
+        }
+    }
+    batches
+}
+
 /// A file whose records move up. No record is put further back than it stood, so none is
 /// overwritten before it has been looked at.
 struct Closing<'f> {
@@ -59,7 +82,9 @@ struct Closing<'f> {
     file: &'f mut [u8],
     /// How many records stand in their new places.
     records: usize,
-    batches: u64,
+    batches: usize,
+    /// Two numbers for each batch that is left.
+    rows: &'f mut [u64],
     /// The header of the open batch, which is put when its first entry stays.
     header: Record,
     batch: Controls,
@@ -67,12 +92,13 @@ struct Closing<'f> {
 }
 
 impl<'f> Closing<'f> {
-    fn new(way: Way, file: &'f mut [u8]) -> Self {
+    fn new(way: Way, file: &'f mut [u8], rows: &'f mut [u64]) -> Self {
         Closing {
             way,
             file,
             records: 0,
             batches: 0,
+            rows,
             header: FILLER,
             batch: Controls::default(),
             whole: Controls::default(),
@@ -118,12 +144,14 @@ impl<'f> Closing<'f> {
         if self.batch.count > 0 {
             self.batch.put_in_batch(&mut record);
             self.put(&record);
+            let row = [self.records as u64, self.whole.credit];
+            self.rows[2 * self.batches - 2..2 * self.batches].copy_from_slice(&row);
         }
     }
 
     fn finish(mut self, mut record: Record) -> usize {
         let blocks = (self.records + 1).div_ceil(RECORDS_IN_BLOCK);
-        self.whole.put_in_file(&mut record, self.batches, blocks as u64);
+        self.whole.put_in_file(&mut record, self.batches as u64, blocks as u64);
         self.put(&record);
         while self.records < blocks * RECORDS_IN_BLOCK {
             self.put(&FILLER);

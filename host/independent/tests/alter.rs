@@ -1,7 +1,10 @@
 //! Altering one amount, and asking for one addendum.
 
+mod common;
+
+use common::alter;
 use generate::{is_payment, near_limit, plan, sample, Batch, Entry, Plan, Random};
-use independent::{addendum, alter, Refusal, Way};
+use independent::{addendum, Refusal, Way};
 
 fn refused<T: std::fmt::Debug>(result: Result<T, Refusal>) -> (u8, u64, u8) {
     let Refusal { number, record, field } = result.expect_err("a refusal is due");

@@ -1,8 +1,11 @@
 //! Both sides of each edge that the scope paper names.
 
+mod common;
+
+use common::alter;
 use generate::damage::{resealed, with_field};
 use generate::{near_limit, sample, Entry, Plan};
-use independent::{alter, check, write, Refusal, Way};
+use independent::{check, write, Refusal, Way};
 
 fn verdict(file: &[u8]) -> Result<(), (u8, u64, u8)> {
     check(Way::Plain, file)

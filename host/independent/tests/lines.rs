@@ -1,9 +1,12 @@
 //! The way with CR LF behind every record.
 
+mod common;
+
+use common::alter;
 use generate::damage::{random_damage, resealed, with_column, with_field};
 use generate::lines::{end_range, lined, random_end_damage, with_end, LINED_RECORD, WRONG_ENDS};
 use generate::{plan, sample, Plan, Random, RECORD};
-use independent::{addendum, alter, check, read, read_into, write, write_into, Refusal, Way};
+use independent::{addendum, check, read, read_into, write, write_into, Refusal, Way};
 
 const WHOLE_TABLE: &[u8] = include_bytes!("../../../samples/whole.table");
 

@@ -1,12 +1,15 @@
 //! Zero-dollar remittances: where they may stand, what they carry, and what comes before what.
 
+mod common;
+
+use common::{alter, take_out};
 use generate::damage::{random_damage, resealed, with_field, without_record};
 use generate::lists::rows_of;
 use generate::remittances::{
     in_ccd, of_code, with_entry_class, with_prenotes_for_remittances, without_addendum, REMITTANCES,
 };
 use generate::{is_credit, is_remittance, plan, sample, Batch, Entry, Random, CODES};
-use independent::{addendum, alter, check, export, import, read, take_out, write, Refusal, Way};
+use independent::{addendum, check, export, import, read, write, Refusal, Way};
 use std::collections::BTreeMap;
 
 type Parts = (u8, u64, u8);

@@ -1,10 +1,13 @@
 //! Taking entries out: the file that is left, its blanks, and the refusals.
 
+mod common;
+
+use common::take_out;
 use generate::lines::with_end;
 use generate::recalls::{random_recall, NO_ENTRIES};
 use generate::tables::without_entries;
 use generate::{near_limit, plan, sample, Batch, Entry, Plan, Random};
-use independent::{check, read, take_out, write, Refusal, Way};
+use independent::{check, read, write, Refusal, Way};
 
 fn parts(refusal: Refusal) -> (u8, u64, u8) {
     (refusal.number, refusal.record, refusal.field)

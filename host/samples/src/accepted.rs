@@ -217,6 +217,40 @@ pub fn loans() -> Plan {
     plan
 }
 
+/// A client who prefunds: one batch is paid, one collected, one of prenotes, one of both sides and one
+/// paid again. The credits grow with the first, the fourth and the fifth.
+pub fn prefunded() -> Plan {
+    let mut plan = sample();
+    let model = plan.batches.remove(0);
+    let (here, there) = (32_207_038, 5_300_021);
+    let first = [
+        (22, here, "6100-01", 150_000, "C-01", "ARDEN, MAY"),
+        (32, there, "6100-02", 200_000, "C-02", "BOLT, IAN"),
+    ];
+    let fourth = [
+        (22, here, "6100-04", 125_025, "C-04", "EVERS, KIM"),
+        (37, there, "6100-12", 40_000, "D-02", "FERRY TOOLS"),
+    ];
+    let batches: [(u32, u32, &[Row]); 5] = [
+        (3, 220, &first),
+        (4, 225, &[(27, here, "6100-11", 90_000, "D-01", "CRANE RENTALS")]),
+        (7, 220, &[(23, there, "6100-03", 0, "C-03", "DOYLE, ANN")]),
+        (8, 200, &fourth),
+        (9, 220, &[(32, here, "6100-05", 52_475, "C-05", "GRANT, LEE")]),
+    ];
+    plan.batches = batches
+        .into_iter()
+        .map(|(number, class, rows)| Batch {
+            class,
+            number,
+            entries: entries(rows),
+            ..model.clone()
+        })
+        .collect();
+    plan.batches[3].entries[0].addendum = Some("TRAVEL ADVANCE FOR DECEMBER".into());
+    plan
+}
+
 /// After source document 002: payments to and from businesses, credits and debits in one batch.
 pub fn vendors() -> Plan {
     let bank = 1_100_234;

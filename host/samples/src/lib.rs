@@ -1,7 +1,8 @@
 //! The files in the folder `samples`: accepted ones after the banks' documents and after the
 //! story, refused ones made from them. What has to be said of each stands in `samples/index`, and
-//! in `samples/index-lined` for files with CR LF behind every record, and in `samples/index-lists`
-//! for client lists; all were written from the rules and by nobody's program.
+//! in `samples/index-lined` for files with CR LF behind every record, in `samples/index-lists` for
+//! client lists, and in `samples/index-funds` for limits that run out; all were written from the rules
+//! and by nobody's program.
 
 mod accepted;
 mod lined;
@@ -45,6 +46,7 @@ fn plans() -> Vec<(&'static str, Plan)> {
         ("union", accepted::union()),
         ("remittances", accepted::remittances()),
         ("team", accepted::team()),
+        ("prefunded", accepted::prefunded()),
     ]
 }
 
@@ -62,6 +64,16 @@ pub fn lined_index() -> Vec<(&'static str, &'static str)> {
 /// that of the file which its table is written to, or that of its refusal.
 pub fn list_index() -> Vec<(&'static str, &'static str)> {
     entries_of(include_str!("../../../samples/index-lists"))
+}
+
+/// Files with a limit such as 1234.56, and the line due for where it runs out.
+pub fn funds_index() -> Vec<(&'static str, &'static str, &'static str)> {
+    let entries = entries_of(include_str!("../../../samples/index-funds"));
+    let split = |(name, rest): (&'static str, &'static str)| {
+        let (limit, line) = rest.split_once(' ').expect("a limit and a line");
+        (name, limit, line)
+    };
+    entries.into_iter().map(split).collect()
 }
 
 fn entries_of(index: &'static str) -> Vec<(&'static str, &'static str)> {

@@ -28,7 +28,7 @@ fn the_files_are_as_they_were_made() {
 fn every_file_is_known() {
     let mut there = names_in("");
     there.extend(names_in("refused/"));
-    for other in ["README.md", "index", "index-lined", "index-lists", "refused"] {
+    for other in ["README.md", "index", "index-lined", "index-lists", "index-funds", "refused"] {
         assert!(there.remove(other), "{other}");
     }
     let made: BTreeSet<String> = samples::all().into_iter().map(|sample| sample.name).collect();
@@ -70,6 +70,36 @@ fn every_list_has_its_line() {
         assert_eq!(independent::line(&held), line, "{name}");
         assert_eq!(line.starts_with("NO "), name.starts_with("refused/"), "{name}");
     }
+}
+
+#[test]
+fn every_limit_has_its_line() {
+    for (name, limit, line) in samples::funds_index() {
+        let cents = limit.replace('.', "").parse().unwrap();
+        let rows = independent::rows_of(Way::Plain, &content(name));
+        let said = match rows.map(|rows| independent::runs_out(&rows, cents)) {
+            Ok(answer) => {
+                let (record, credits) = answer.found.unwrap_or_default();
+                format!("OK {} {record} {credits}", answer.rows)
+            }
+            Err(refusal) => independent::line(&Err(refusal)),
+        };
+        assert_eq!(said, line, "{name} {limit}");
+    }
+}
+
+/// Credits grow with some batches and not with others, and batch numbers are left out.
+#[test]
+fn credits_that_grow_in_steps() {
+    let file = content("prefunded.ach");
+    let controls = || file.chunks(94).filter(|record| record[0] == b'8');
+    let credits: Vec<&[u8]> = controls().map(|control| &control[32..44]).collect();
+    assert_eq!(
+        credits,
+        [b"000000350000", b"000000000000", b"000000000000", b"000000125025", b"000000052475"]
+    );
+    let numbers: Vec<&[u8]> = controls().map(|control| &control[93..]).collect();
+    assert_eq!(numbers, [b"3", b"4", b"7", b"8", b"9"]);
 }
 
 /// The list gives the table, and the table's own list gives it again.

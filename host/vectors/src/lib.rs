@@ -4,6 +4,7 @@
 //! implementation of the rules is asked. A test compares the lines with the independent one.
 
 mod fields;
+mod funds;
 mod lines;
 mod remittances;
 mod structure;
@@ -31,6 +32,7 @@ pub fn all() -> Vec<Vector> {
     fields::collect(&mut collection);
     values::collect(&mut collection);
     remittances::collect(&mut collection);
+    funds::collect(&mut collection);
     for Vector { about, file, .. } in &collection.vectors {
         assert!(file.len() <= LONGEST, "{about}: too long to be looked at");
     }

@@ -19,9 +19,9 @@ use Rattle.accept.proofs.check.Statement.{statement}
 use Rattle.accept.proofs.check.Tie as tie
 use Rattle.accept.proofs.check.Reads as reads
 use Rattle.accept.proofs.check.Lts as lts
-use Rattle.accept.proofs.finished.Reads as finished-reads
-use Rattle.accept.proofs.refused.Reads as refused-reads
-use Rattle.accept.proofs.whole_records.Reads as whole-records-reads
+use Rattle.verdict.proofs.finished.Reads as finished-reads
+use Rattle.verdict.proofs.refused.Reads as refused-reads
+use Rattle.verdict.proofs.whole_records.Reads as whole-records-reads
 use Rattle.groups.proofs.table.Reads as table-reads
 use Rattle.layout.proofs.first_field.Reads as first-field-reads
 use Rattle.layout.proofs.record_bytes.Reads as record-bytes-reads

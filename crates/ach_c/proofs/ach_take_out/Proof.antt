@@ -1,49 +1,38 @@
-use Rattle.ach_c.proofs.Laws.{granted-code, granted-gives, refused-lent}
+use Rattle.told.specs.Boundary.{codeOfAnswer, left}
 use Rattle.layout.specs.declared.Made.{Made}
-use mathlib.Core.Path.{refl, _∙_, ap}
+use mathlib.Core.Path.{_∙_, ap}
 use borrow.Author.Needs.{needs}
 use Rattle.ach_c.proofs.ach_take_out.Statement.{statement}
 use Rattle.ach_c.proofs.ach_take_out.Tie as tie
 use Rattle.ach_c.proofs.ach_take_out.Reads as reads
 use Rattle.ach_c.proofs.ach_take_out.Lts as lts
 use Rattle.ach.proofs.take_out.Reads as take-out-reads
-use Rattle.ach_c.proofs.code_of.Reads as code-of-reads
-use Rattle.ach_c.proofs.way_of.Reads as way-of-reads
+use Rattle.told.proofs.tell_made.Reads as tell-made-reads
+use Rattle.told.proofs.way_of.Reads as way-of-reads
 
--- src/lib.rt:135:30
+-- src/lib.rt:78:30
 way-of-requires : tie.Need-way-of-requires
 way-of-requires c κs = search needs
 
--- src/lib.rt:135:9
+-- src/lib.rt:78:9
 take-out-requires : tie.Need-take-out-requires
 take-out-requires c κs = search needs
 
--- src/lib.rt:138:9
-enum-told : tie.Need-enum-told
-enum-told c = search needs
+-- src/lib.rt:79:5
+tell-made-requires : tie.Need-tell-made-requires
+tell-made-requires c κs = search needs
 
--- src/lib.rt:139:9
+-- src/lib.rt:68:1
 same-length : tie.Need-same-length
 same-length c = search needs
 
--- src/lib.rt:139:9
-returns : tie.Need-returns
-returns c = let e = ap (λ (m : Made). m .answer) ((rw ((c .before .before .before .before .before .before .way-of) .ensures) at ((c .before .before .before .before .take-out) .ensures .0))) in (granted-code _ _ e ((c .enum-told) .given .1), (rw ((c .before .before .before .before .before .before .way-of) .ensures) at ((c .before .before .before .before .take-out) .ensures .1)), granted-gives _ _ _ _ _ e ((c .enum-told) .given .1) (ap (λ (m : Made). m .length) ((rw ((c .before .before .before .before .before .before .way-of) .ensures) at ((c .before .before .before .before .take-out) .ensures .0)))))
-
-enum-told-2 : tie.Need-enum-told-2
-enum-told-2 c = search needs
-
--- src/lib.rt:141:5
-code-of-requires : tie.Need-code-of-requires
-code-of-requires c κs = search needs
-
--- src/lib.rt:131:1
+-- src/lib.rt:68:1
 same-length-2 : tie.Need-same-length-2
 same-length-2 c = search needs
 
--- src/lib.rt:131:1
-returns-2 : tie.Need-returns-2
-returns-2 c = let e = ap (λ (m : Made). m .answer) ((rw ((c .before .before .before .before .before .before .before .way-of) .ensures) at ((c .before .before .before .before .before .take-out) .ensures .0))) in ((c .code-of) .ensures ∙ rw e refl, (rw ((c .before .before .before .before .before .before .before .way-of) .ensures) at ((c .before .before .before .before .before .take-out) .ensures .1)), refused-lent _ _ ((c .before .enum-told2) .given .0 .0) _ _ e ((c .before .enum-told2) .given .1))
+-- src/lib.rt:68:1
+returns : tie.Need-returns
+returns c = let e = (rw ((c .before .before .before .before .before .before .before .before .before .way-of) .ensures) at ((c .before .before .before .before .before .before .take-out) .ensures .0)) in ((c .tell-made) .ensures .0 ∙ ap (λ (m : Made). codeOfAnswer (m .answer)) e, (rw ((c .before .before .before .before .before .before .before .before .before .way-of) .ensures) at ((c .before .before .before .before .before .before .take-out) .ensures .1)), (rw ((c .before .before .before .before .before .before .before .before .before .way-of) .ensures) at ((c .before .before .before .before .before .before .take-out) .ensures .2)), (c .tell-made) .ensures .1 ∙ ap (λ (m : Made). left (m .answer) (m .length) ((c .before .before .before .before .before .before .before .before .before .before .before .before .before .args) .length .now)) e)
 
 pub ach-take-out-spec : {M : Type 1} → statement M
 ach-take-out-spec =
@@ -51,10 +40,7 @@ ach-take-out-spec =
     (tie.spec
     way-of-requires
     take-out-requires
-    enum-told
+    tell-made-requires
     same-length
-    returns
-    enum-told-2
-    code-of-requires
     same-length-2
-    returns-2)
+    returns)

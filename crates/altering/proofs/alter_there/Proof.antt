@@ -13,7 +13,7 @@ use Rattle.altering.proofs.alter_there.Tie as tie
 use Rattle.altering.proofs.alter_there.Reads as reads
 use Rattle.altering.proofs.alter_there.Lts as lts
 use Rattle.finding.proofs.find.locate.Reads as locate-reads
-use Rattle.finding.proofs.refused.Reads as refused-reads
+use Rattle.layout.proofs.refused.Reads as refused-reads
 use Rattle.sides.proofs.credits.Reads as credits-reads
 use Rattle.sides.proofs.debits.Reads as debits-reads
 use Rattle.sides.proofs.entry_said.Reads as entry-said-reads

@@ -13,7 +13,7 @@ use Rattle.importing.proofs.import.Reads as reads
 use Rattle.importing.proofs.import.Lts as lts
 use Rattle.importing.proofs.judge_list.Reads as judge-list-reads
 use Rattle.listing.proofs.put_table.Reads as put-table-reads
-use Rattle.passing.proofs.refused.Reads as refused-reads
+use Rattle.layout.proofs.refused.Reads as refused-reads
 
 -- src/lib.rt:68:9
 judge-list-requires : tie.Need-judge-list-requires

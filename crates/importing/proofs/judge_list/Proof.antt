@@ -1,5 +1,5 @@
 use Rattle.importing.proofs.Judging.{list-refused, rows-refused, file-judged, rows-fit, many-lines}
-use Rattle.view.proofs.Answers.{not-granted}
+use Rattle.bridge.proofs.Answers.{not-granted}
 use Rattle.cells.specs.Grammar.{linesIn}
 use lib.ListN.{length}
 use lib.Dec.{leb, eqb}
@@ -18,7 +18,7 @@ use Rattle.importing.proofs.judge.judged.Reads as judged-reads
 use Rattle.importing.proofs.rows_fit.Reads as rows-fit-reads
 use Rattle.importing.proofs.unlisted.Reads as unlisted-reads
 use Rattle.listing.proofs.listed.Reads as listed-reads
-use Rattle.passing.proofs.refused.Reads as refused-reads
+use Rattle.layout.proofs.refused.Reads as refused-reads
 
 -- src/lib.rt:38:9
 listed-requires : tie.Need-listed-requires

@@ -1,7 +1,7 @@
 use Rattle.listing.proofs.WalkLaws.{from-here, Walked, walked-start, number-small, walked-fault, line-fits, walked-next, walked-end}
 use Rattle.comma.specs.Entries.{lineVerdict}
 use Rattle.cells.specs.Grammar.{lineSize}
-use Rattle.view.proofs.Answers.{not-granted}
+use Rattle.bridge.proofs.Answers.{not-granted}
 use lib.ListN.{length}
 use mathlib.Core.Path.{_≡_}
 use native.Mathlib.Omega.{arith}
@@ -13,7 +13,7 @@ use Rattle.listing.proofs.listed.Tie as tie
 use Rattle.listing.proofs.listed.Reads as reads
 use Rattle.listing.proofs.listed.Lts as lts
 use Rattle.comma.proofs.entries.tried.Reads as tried-reads
-use Rattle.passing.proofs.refused.Reads as refused-reads
+use Rattle.layout.proofs.refused.Reads as refused-reads
 
 abbrev Inv-loop : tie.InvT-loop
 Inv-loop lines count₀ at₀ count at = Walked lines (count + 1) at

@@ -1,7 +1,7 @@
 use Rattle.passing.proofs.PassLaws.{right, form-long, some-left, passed-on, step-by, run-refused, run-granted, Walking, begun, walking-on}
 use Rattle.walking.proofs.WalkLaws.{todo}
 use Rattle.view.specs.Table.{formed}
-use Rattle.view.proofs.Ways.{bareRun}
+use Rattle.bridge.proofs.Ways.{bareRun}
 use Rattle.layout.specs.declared.Way.{Way}
 use Rattle.records.specs.Run.{checkedOf}
 use Rattle.tally.specs.Fair.{Fair}
@@ -22,7 +22,7 @@ use Rattle.order.proofs.complete.Reads as complete-reads
 use Rattle.records.proofs.step.check.Reads as check-reads
 use Rattle.tally.proofs.start.Reads as start-reads
 use Rattle.passing.proofs.opened.Reads as opened-reads
-use Rattle.passing.proofs.refused.Reads as refused-reads
+use Rattle.layout.proofs.refused.Reads as refused-reads
 use Rattle.walking.proofs.advance.Reads as advance-reads
 use Rattle.walking.proofs.form.Reads as form-reads
 

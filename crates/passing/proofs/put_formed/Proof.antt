@@ -1,7 +1,7 @@
 use Rattle.passing.proofs.PassLaws.{right, form-long, some-left, granted-passes, step-by, none-left, Walking, begun, walking-on, Left, left-first, left-closed, left-length, left-end, form-first}
 use Rattle.walking.proofs.WalkLaws.{todo}
 use Rattle.view.specs.Table.{formed}
-use Rattle.view.proofs.Ways.{bareRun}
+use Rattle.bridge.proofs.Ways.{bareRun}
 use Rattle.view.specs.View.{closedBy}
 use Rattle.layout.specs.Ways.{endOf, recordBytes}
 use mathlib.Core.List.{map}

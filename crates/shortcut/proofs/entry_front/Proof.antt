@@ -1,7 +1,7 @@
 use Rattle.shortcut.proofs.QuickLaws.{code-right, two-tests}
 use Rattle.near.specs.Near.{entryCode, entryAmount, codeRule, checkDigitRule}
 use Rattle.shortcut.specs.Quick.{isRight}
-use Rattle.kinds.specs.Kinds.{bank}
+use Rattle.own.specs.Rules.{bank}
 use mathlib.Core.Bool.{and-assoc}
 use Rattle.codes.specs.Codes.{codeOf, carries}
 use Rattle.text.specs.Decimal.{digits}
@@ -16,7 +16,7 @@ use Rattle.shortcut.proofs.entry_front.Lts as lts
 use Rattle.codes.proofs.allowed.Reads as allowed-reads
 use Rattle.codes.proofs.carries.Reads as carries-reads
 use Rattle.codes.proofs.code_of.Reads as code-of-reads
-use Rattle.kinds.proofs.own.account.Reads as account-reads
+use Rattle.own.proofs.account.Reads as account-reads
 use Rattle.near.proofs.batch_class.Reads as batch-class-reads
 use Rattle.near.proofs.class_takes.Reads as class-takes-reads
 use Rattle.shortcut.proofs.right.Reads as right-reads

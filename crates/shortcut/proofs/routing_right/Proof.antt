@@ -4,7 +4,7 @@ use Rattle.shortcut.proofs.QuickLaws.{gate-shut, gate-open}
 use Rattle.shortcut.specs.Quick.{isRight}
 use Rattle.groups.proofs.GroupLaws.{digit-told, below}
 use Rattle.groups.specs.Groups.{checkDigit}
-use Rattle.kinds.specs.Kinds.{bank}
+use Rattle.own.specs.Rules.{bank}
 use Rattle.layout.specs.Fields.{entry, part}
 use Rattle.layout.specs.declared.Fault.{Fault}
 use Rattle.text.specs.Decimal.{digits, value}
@@ -16,7 +16,7 @@ use Rattle.shortcut.proofs.routing_right.Tie as tie
 use Rattle.shortcut.proofs.routing_right.Reads as reads
 use Rattle.shortcut.proofs.routing_right.Lts as lts
 use Rattle.groups.proofs.balanced.Reads as balanced-reads
-use Rattle.kinds.proofs.own.bank.Reads as bank-reads
+use Rattle.own.proofs.bank.Reads as bank-reads
 use Rattle.shortcut.proofs.right.Reads as right-reads
 use Rattle.text.proofs.digits.Reads as digits-reads
 use Rattle.text.proofs.number.Reads as number-reads

@@ -5,7 +5,7 @@ use Rattle.sides.proofs.limits.Statement.{statement}
 use Rattle.sides.proofs.limits.Tie as tie
 use Rattle.sides.proofs.limits.Reads as reads
 use Rattle.sides.proofs.limits.Lts as lts
-use Rattle.finding.proofs.refused.Reads as refused-reads
+use Rattle.layout.proofs.refused.Reads as refused-reads
 
 -- src/lib.rt:88:13
 add-refused : tie.Need-add-refused

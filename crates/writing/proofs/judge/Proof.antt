@@ -9,7 +9,7 @@ use Rattle.writing.proofs.judge.Reads as reads
 use Rattle.writing.proofs.judge.Lts as lts
 use Rattle.forming.proofs.shape.shaped.Reads as shaped-reads
 use Rattle.passing.proofs.judged.Reads as judged-reads
-use Rattle.passing.proofs.refused.Reads as refused-reads
+use Rattle.layout.proofs.refused.Reads as refused-reads
 use Rattle.writing.proofs.records_in.Reads as records-in-reads
 
 -- src/lib.rt:45:9

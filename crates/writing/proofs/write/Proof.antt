@@ -14,7 +14,7 @@ use Rattle.writing.proofs.write.Lts as lts
 use Rattle.layout.proofs.record_bytes.Reads as record-bytes-reads
 use Rattle.writing.proofs.judge.Reads as judge-reads
 use Rattle.passing.proofs.put_formed.Reads as put-formed-reads
-use Rattle.passing.proofs.refused.Reads as refused-reads
+use Rattle.layout.proofs.refused.Reads as refused-reads
 use Rattle.writing.proofs.records_in.Reads as records-in-reads
 
 -- src/lib.rt:59:39

@@ -1,10 +1,10 @@
 use Rattle.importing.proofs.Judging.{begun-here, ahead-here, few-here, import-made, long-here, left-here, refused-here, step-here, along-here}
-use Rattle.importing.proofs.Along.{Along, along-first, batch-few, entry-few}
+use Rattle.following.proofs.Along.{Along, along-first, batch-few, entry-few}
 use Rattle.listing.proofs.TableLaws.{bank-long}
 use Rattle.comma.specs.Import.{importTable}
 use Rattle.passing.proofs.PassLaws.{Walking, walking-on, passed-on, run-granted}
 use Rattle.walking.proofs.WalkLaws.{todo}
-use Rattle.view.proofs.Ways.{bareRun}
+use Rattle.bridge.proofs.Ways.{bareRun}
 use Rattle.view.specs.Table.{formed}
 use Rattle.records.specs.Run.{checkedOf}
 use Rattle.tally.specs.Fair.{Fair}
@@ -22,16 +22,16 @@ use Rattle.importing.proofs.judge.judged.Statement.{statement}
 use Rattle.importing.proofs.judge.judged.Tie as tie
 use Rattle.importing.proofs.judge.judged.Reads as reads
 use Rattle.importing.proofs.judge.judged.Lts as lts
-use Rattle.importing.proofs.walk.entry_due.Reads as entry-due-reads
-use Rattle.importing.proofs.walk.form.Reads as form-reads
-use Rattle.importing.proofs.walk.next_line.Reads as next-line-reads
-use Rattle.importing.proofs.walk.opened.Reads as opened-reads
-use Rattle.importing.proofs.walk.past.Reads as past-reads
+use Rattle.following.proofs.entry_due.Reads as entry-due-reads
+use Rattle.following.proofs.form.Reads as form-reads
+use Rattle.following.proofs.next_line.Reads as next-line-reads
+use Rattle.following.proofs.opened.Reads as opened-reads
+use Rattle.following.proofs.past.Reads as past-reads
 use Rattle.groups.proofs.table.Reads as table-reads
 use Rattle.order.proofs.complete.Reads as complete-reads
 use Rattle.records.proofs.step.check.Reads as check-reads
 use Rattle.tally.proofs.start.Reads as start-reads
-use Rattle.passing.proofs.refused.Reads as refused-reads
+use Rattle.layout.proofs.refused.Reads as refused-reads
 
 abbrev Inv-loop : tie.InvT-loop
 Inv-loop filerow batchrow lines count groups c₀ st₀ at₀ number₀ c st at number = Walking (importTable filerow batchrow lines) c st × Fair st × (bareRun st (todo (importTable filerow batchrow lines) c st) ≡ checkedOf Way.Plain (formed Way.Plain (importTable filerow batchrow lines))) × Along lines count c at number

@@ -21,7 +21,7 @@ use Rattle.kinds.proofs.texts.mandatory_text.Reads as mandatory-text-reads
 use Rattle.kinds.proofs.texts.nine_filled.Reads as nine-filled-reads
 use Rattle.kinds.proofs.texts.optional_text.Reads as optional-text-reads
 use Rattle.near.proofs.near.Reads as near-reads
-use Rattle.kinds.proofs.own.own.Reads as own-reads
+use Rattle.own.proofs.own.Reads as own-reads
 use Rattle.text.proofs.wide.Reads as wide-reads
 
 -- src/field.rt:106:23

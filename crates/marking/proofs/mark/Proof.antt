@@ -1,0 +1,90 @@
+use Rattle.marking.proofs.MarkLaws.{Marking, marking-first, bad-zero, bad-past, marking-on, all-there, all-marked}
+use Rattle.bridge.proofs.BridgeFields.{never}
+use lib.ListN.{length, getD}
+use mathlib.Core.Path.{_≡_}
+use native.Mathlib.Omega.{arith}
+use Prim.Native.Nat.{_-_, _≤_, _<_}
+use mathlib.Core.Path.{sym, _∙_}
+use borrow.Author.Needs.{needs}
+use Rattle.marking.proofs.mark.Statement.{statement}
+use Rattle.marking.proofs.mark.Tie as tie
+use Rattle.marking.proofs.mark.Reads as reads
+use Rattle.marking.proofs.mark.Lts as lts
+
+abbrev Inv-loop : tie.InvT-loop
+Inv-loop flags₀ numbers count i₀ flags i = Marking numbers count flags i
+
+abbrev μ-loop : tie.MeasureT-loop
+μ-loop flags₀ numbers count i₀ flags i = length numbers - i
+
+-- src/marks.rt:16:5
+loop-holds : tie.Need-loop-holds Inv-loop μ-loop
+loop-holds c = marking-first _ _ _ ((c .pre) .0) ((c .pre) .2)
+
+-- src/marks.rt:17:17
+mul-n : tie.Need-mul-n Inv-loop μ-loop
+mul-n c = search needs
+
+-- src/marks.rt:17:17
+shared-slice-read-n : tie.Need-shared-slice-read-n Inv-loop μ-loop
+shared-slice-read-n c = search needs
+
+-- src/marks.rt:19:13
+same-length : tie.Need-same-length Inv-loop μ-loop
+same-length c = (c .before .before .before .loop) .inv .long ∙ sym ((c .before .before .before .before .pre) .0)
+
+-- src/marks.rt:19:13
+returns : tie.Need-returns Inv-loop μ-loop
+returns c = ((c .before .before .before .loop) .inv .long, bad-zero ((c .before .before .before .loop) .inv) ((c .before .before .loop-test) .taken) ((c .if1) .taken), λ e. never e)
+
+-- src/marks.rt:22:13
+same-length-2 : tie.Need-same-length-2 Inv-loop μ-loop
+same-length-2 c = (c .before .before .before .before .loop) .inv .long ∙ sym ((c .before .before .before .before .before .pre) .0)
+
+-- src/marks.rt:22:13
+returns-2 : tie.Need-returns-2 Inv-loop μ-loop
+returns-2 c = ((c .before .before .before .before .loop) .inv .long, bad-past ((c .before .before .before .before .loop) .inv) ((c .before .before .before .loop-test) .taken) ((c .if2) .taken) ((c .before .if1) .left), λ e. never e)
+
+-- src/marks.rt:24:9
+slice-write-flags : tie.Need-slice-write-flags Inv-loop μ-loop
+slice-write-flags c = omega (arith, (c .before .before .before .before .loop) .inv .long, (c .if2) .left, (c .before .before .before .before .before .pre) .1)
+
+-- src/marks.rt:25:9
+add-i : tie.Need-add-i Inv-loop μ-loop
+add-i c = search needs
+
+-- src/marks.rt:16:5
+loop-less : tie.Need-loop-less Inv-loop μ-loop
+loop-less c = search needs
+
+-- src/marks.rt:16:5
+loop-again : tie.Need-loop-again Inv-loop μ-loop
+loop-again c = marking-on ((c .before .before .before .before .loop) .inv) ((c .before .before .before .loop-test) .taken) ((c .before .if1) .left) ((c .if2) .left) ((c .before .before .before .before .before .pre) .1)
+
+-- src/marks.rt:11:1
+same-length-3 : tie.Need-same-length-3 Inv-loop μ-loop
+same-length-3 c = (c .before .loop) .inv .long ∙ sym ((c .before .before .pre) .0)
+
+-- src/marks.rt:11:1
+returns-3 : tie.Need-returns-3 Inv-loop μ-loop
+returns-3 c = ((c .before .loop) .inv .long, all-there ((c .before .loop) .inv) ((c .loop-test) .left), λ e. all-marked ((c .before .loop) .inv) ((c .loop-test) .left))
+
+pub mark-spec : {M : Type 1} → statement M
+mark-spec =
+    tie.close
+    (tie.spec
+    Inv-loop
+    μ-loop
+    loop-holds
+    mul-n
+    shared-slice-read-n
+    same-length
+    returns
+    same-length-2
+    returns-2
+    slice-write-flags
+    add-i
+    loop-less
+    loop-again
+    same-length-3
+    returns-3)

@@ -1,0 +1,45 @@
+// Which entries go: a flag for each entry number.
+ghost use Prim.Native.Nat.{ℕ, _<_};
+ghost use mathlib.Core.Path.{_≡_};
+ghost use mathlib.Core.Bool.{true};
+ghost use lib.ListN.{length, getD};
+ghost use Rattle.view.specs.View.{View, entriesOf};
+ghost use Rattle.without.specs.Without.{named, allExist};
+ghost use Rattle.moving.specs.Walk.{gone, someLeft};
+
+// Flags each number of the list; false where one of them is no entry's.
+pub fn mark(flags: &mut [u8], numbers: &[u64], count: u64) -> bool
+    requires { ⌜ (length (now flags) ≡ 1000000) × (count < 1000000) × ((k : ℕ) → getD (now flags) k 0 ≡ 0) ⌝ }
+    ensures { λ r. ⌜ (length (now (flags .exit)) ≡ 1000000) × ((v : View) → length (entriesOf v) ≡ count → r ≡ allExist v (now (numbers .entry))) × (r ≡ true → (k : ℕ) → gone (now (flags .exit)) k ≡ named k (now (numbers .entry))) ⌝ }
+{
+    let mut i = 0;
+    while i < numbers.len() {
+        let n = numbers[i];
+        if n < 1 {
+            return false;
+        }
+        if count < n {
+            return false;
+        }
+        flags[n as usize] = 1;
+        i += 1;
+    }
+    true
+}
+
+// Whether an entry is not flagged.
+pub fn any_left(flags: &[u8], count: usize) -> bool
+    requires { ⌜ (length (now flags) ≡ 1000000) × (count < 1000000) ⌝ }
+    ensures { λ r. ⌜ r ≡ someLeft (now (flags .entry)) 1 count ⌝ }
+{
+    let mut k = 1;
+    let mut left = count;
+    while 0 < left {
+        if flags[k] != 1 {
+            return true;
+        }
+        k += 1;
+        left -= 1;
+    }
+    false
+}
