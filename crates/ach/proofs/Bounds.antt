@@ -19,7 +19,7 @@ use Rattle.layout.specs.declared.Refusal.{Refusal}
 use Rattle.layout.specs.declared.Row.{Row}
 use Rattle.layout.specs.declared.Line.{Line}
 use Rattle.layout.specs.Fields.{rowsOf, firstField}
-use Rattle.layout.specs.Paper.{numberOf, refusal}
+use Rattle.layout.specs.Paper.{refusal}
 use Rattle.kinds.specs.declared.Mark.{Mark}
 use Rattle.codes.specs.declared.Code.{Code}
 use Rattle.codes.specs.Codes.{codeOf, carries}
@@ -30,13 +30,14 @@ use Rattle.records.specs.declared.Verdict.{Verdict}
 use Rattle.order.specs.Order.{complete}
 use Rattle.tally.specs.Tally.{start, tally}
 use Rattle.records.specs.Run.{found, fieldsFrom, lineOf, Piece, closing, stepped, onward, refused, accepted, runFrom, lengthFits, mostRecords, rawRecords, pieceOf, checkedOf}
+use Rattle.tally.proofs.TallyLaws.{records-next}
+use Rattle.records.proofs.Laws as laws
 use Rattle.records.proofs.Ways.{rows-few}
 use Rattle.layout.specs.Ways.{recordBytes}
 use Rattle.view.specs.View.{View, entriesOf, sumOver, debitOf, creditOf, amountOf, codeIn, fileOf, viewOf}
 use Rattle.view.specs.Table.{shaped, formed, tableOf}
 use Rattle.view.specs.Outcome.{Spot, demand, andThen, room, made, readOf, writeOf, entryAt, exists, spotOf, entryNumber, batchControlNumber, fileControlNumber, within, limits, alterAnswer, altered, addendumAnswer}
 use Rattle.bridge.proofs.Bridge.{accepted-view}
-use Rattle.bridge.proofs.BridgeWalk.{carry}
 use Rattle.finding.proofs.Places.{in-order}
 use Rattle.layout.specs.declared.Way.{Way}
 use Rattle.layout.specs.declared.Checked.{Checked}
@@ -81,27 +82,11 @@ fields-low k n (row ∷ rows) s h r l = go (fieldOf s h r row) (fields-low (k + 
     go (Mark.Wrong fault) later = omega (arith, l)
 
 line-low : (line : Line) → firstField line + length (rowsOf line) ≤ 14
-line-low Line.FileHeader = lit≤ tt
-line-low Line.BatchHeader = lit≤ tt
-line-low Line.Entry = lit≤ tt
-line-low Line.Addendum = lit≤ tt
-line-low Line.BatchControl = lit≤ tt
-line-low Line.FileControl = lit≤ tt
-line-low Line.Filler = lit≤ tt
-line-low Line.Past = lit≤ tt
-line-low Line.Other = lit≤ tt
+line-low line = omega (arith, laws.first-le line, laws.rows-few line)
 
 -- every record is counted
 pub one-more : (st : State) (line : Line) (r : List ℕ) → tally st line r .sums .records ≡ st .sums .records + 1
-one-more st Line.FileHeader r = refl
-one-more st Line.BatchHeader r = refl
-one-more st Line.Entry r = refl
-one-more st Line.Addendum r = refl
-one-more st Line.BatchControl r = refl
-one-more st Line.FileControl r = refl
-one-more st Line.Filler r = refl
-one-more st Line.Past r = refl
-one-more st Line.Other r = refl
+one-more st line r = records-next (st .sums) line r
 
 abbrev pub carried : Verdict → State → State → List Piece → Checked
 carried v next st ps = onward (stepped v next st .verdict) (st .sums .records + 1) (runFrom (stepped v next st .state) ps)

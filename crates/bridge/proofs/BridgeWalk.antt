@@ -54,7 +54,7 @@ pass st line r rs e g =
     run-line st line r rs e ∙ ap (λ v. carry v (tally st line r) st rs) (right-passed (firstField line) (rowsOf line) (st .sums) (st .header) r g)
 
 -- fillers pass, and then the file is complete
-fillers-run : (k : ℕ) (s : Sums) (h c : List ℕ) → fillersAfter (s .records) ≡ k → bareRun (at Place.FileDone s h c) (replicate k fillerRecord) ≡ accepted (at Place.FileDone s h c)
+pub fillers-run : (k : ℕ) (s : Sums) (h c : List ℕ) → fillersAfter (s .records) ≡ k → bareRun (at Place.FileDone s h c) (replicate k fillerRecord) ≡ accepted (at Place.FileDone s h c)
 unfolding runFrom every
 fillers-run zero s h c e = rw (fillers-full (s .records) e)
 fillers-run (suc k) s h c e =

@@ -8,10 +8,9 @@ use mathlib.Core.Path.{_≡_, refl, sym, ap, ap₂, _∙_}
 use mathlib.Core.Bool.{Bool, true, false, _&&_}
 use mathlib.Core.List.{List, [], _∷_, _++_}
 use lib.Dec.{leb, eqb}
-use lib.ListN.{length, getD, take, drop, replicate, set, length-take, length-drop, length-append, length-replicate, drop-of-length-le, List·getD-eq-default}
+use lib.ListN.{length, getD, take, drop, replicate, set, length-drop, length-append, length-replicate, drop-of-length-le, List·getD-eq-default}
 use lib.Seq.{sets, drop-cons, drop-drop, take-all}
 use borrow.Author.Tests.{eq-eqb, ne-eqb, le-leb, lt-leb}
-use Rattle.text.specs.Decimal.{pick}
 use Rattle.text.proofs.SetLaws.{sets-whole}
 use Rattle.cells.specs.declared.Cell.{Cell}
 use Rattle.cells.specs.declared.Scan.{Scan}
@@ -49,9 +48,6 @@ module _ (s : List ℕ) (i : ℕ) (scan : Scan) where
 
 pub cell-is : (s : List ℕ) (i : ℕ) (w : Bool) → i ≡ sizeFrom Scan.Fresh s → w ≡ endsFrom Scan.Fresh s → record { size = i; whole = w } ≡ cellOf s
 cell-is s i w e f = ap₂ (λ n b. record { size = n; whole = b }) e f
-
-pub stuck-not : (a b : Bool) → b ≡ a → b ≡ false → a ≡ false
-stuck-not a b e f = sym e ∙ f
 
 -- the bytes from one on, as the code cuts them out
 pub rest-of : (xs : List ℕ) (at : ℕ) → take (length xs - at) (drop at xs) ≡ drop at xs

@@ -1,24 +1,23 @@
 -- The walk along the six fields of a line, and the lines one behind another.
 -- Assumes nothing.
-use Prim.Native.Nat.{ℕ, zero, suc, _+_, _-_, _*_, _<_, _≤_}
+use Prim.Native.Nat.{ℕ, zero, suc, _+_, _-_, _<_, _≤_}
 use native.Mathlib.Nat.{zero-add}
-use native.Mathlib.Numerals.{add-one}
 use native.Mathlib.Omega.{arith}
 use mathlib.Core.Path.{_≡_, refl, sym, ap, _∙_, subst}
 use mathlib.Core.Bool.{Bool, true, false, _&&_, _||_}
 use mathlib.Core.List.{List, [], _∷_, _++_, append-nil, append-assoc}
 use lib.Dec.{leb, eqb, lit≤}
-use lib.ListN.{length, getD, take, drop, set, replicate, length-take, length-drop, length-append, length-replicate, List·getD-eq-default}
+use lib.ListN.{length, getD, take, drop, set, replicate, length-take, length-drop, length-append, List·getD-eq-default}
 use lib.Seq.{sets, sets-eq, length-sets, drop-drop}
-use borrow.Author.Tests.{leb-true, leb-false, eqb-true, eqb-false, eq-eqb, ne-eqb}
+use borrow.Author.Tests.{leb-true, leb-false, eqb-true, eq-eqb, ne-eqb}
 use Rattle.text.specs.Decimal.{pick, render}
 use Rattle.text.specs.Rows.{joined}
 use Rattle.text.proofs.DecimalLaws.{and-both, length-render}
 use Rattle.text.proofs.SetLaws.{sets-append}
 use Rattle.layout.specs.declared.Fault.{Fault}
 use Rattle.records.specs.declared.Verdict.{Verdict}
-use Rattle.cells.specs.Grammar.{cellOf, innerOf, undoubled, textOf, stopFrom, textFrom, breakAt, fieldsRight, textsFrom, lastStop, sizeBy, sixFields, sixTexts, lineSize, linesFrom, linesIn, filledTo}
-use Rattle.comma.specs.Entries.{amountRight, centsIn, fieldWide, fieldRight, fieldFault, try, textsVerdict, lineVerdict, columnsOf, allColumns, columnAt, restOfRow, rowOfLine, emptyRow, entriesOfLines}
+use Rattle.cells.specs.Grammar.{cellOf, innerOf, undoubled, stopFrom, textFrom, breakAt, fieldsRight, textsFrom, lastStop, sizeBy, sixFields, sixTexts, lineSize, linesFrom, linesIn, filledTo}
+use Rattle.comma.specs.Entries.{amountRight, centsIn, fieldWide, fieldRight, fieldFault, try, textsVerdict, lineVerdict, columnsOf, allColumns, columnAt, restOfRow, rowOfLine, emptyRow}
 use Rattle.cells.specs.declared.Cell.{Cell}
 use Rattle.cells.proofs.CellLaws.{length-filled, right-more, stop-more, right-last, stop-last}
 use Rattle.comma.proofs.AmountLaws.{amount-plain, amount-same}
@@ -31,15 +30,6 @@ module _ (xs : List ℕ) (at : ℕ) where
   texts-more zero h = absurd (omega arith)
   texts-more (suc n) h = let e : suc n - 1 ≡ n = omega arith in rw e refl
 
-  texts-last : (n : ℕ) → n ≤ 0 → textsFrom n xs at ≡ textFrom xs at ∷ []
-  unfolding textsFrom
-  texts-last zero h = refl
-  texts-last (suc n) h = absurd (omega arith)
-
--- the field between two bytes, as the code cuts it out
-pub text-cut : (xs : List ℕ) (at stop n : ℕ) → stop ≡ at + n → take (stop - at) (drop at xs) ≡ take n (drop at xs)
-text-cut xs at stop n e = ap (λ k. take k (drop at xs)) (let f : stop - at ≡ n = omega arith in f)
-
 -- ---- the first fault
 
 module _ (xs : List ℕ) (at k : ℕ) where
@@ -51,9 +41,6 @@ module _ (xs : List ℕ) (at k : ℕ) where
 
   texts-here : k < 6 → from ≡ textFrom xs at ∷ behind
   texts-here h = let n : 6 - k - 1 ≡ 6 - (k + 1) = omega arith in texts-more xs at (6 - k) (omega arith) ∙ ap (λ m. textFrom xs at ∷ textsFrom m xs (stopFrom xs at + 1)) n
-
-  texts-end : 6 ≤ k → from ≡ textFrom xs at ∷ []
-  texts-end h = texts-last xs at (6 - k) (omega arith)
 
   pub verdict-right : k < 6 → fieldRight k (textFrom xs at) ≡ true → textsVerdict k from ≡ textsVerdict (k + 1) behind
   unfolding textsVerdict

@@ -1,18 +1,16 @@
 -- Laws of bytes set in place, and of bytes set inside one of many rows.
 -- Assumes nothing.
-use mathlib.Core.Path.{_≡_, refl, sym, ap, _∙_}
-use mathlib.Core.Logic.{_≢_}
+use mathlib.Core.Path.{_≡_, refl, ap, _∙_}
 use mathlib.Core.List.{List, [], _∷_, _++_, append-assoc, append-nil}
 use Prim.Native.Nat.{ℕ, zero, suc, _+_, _-_, _*_, _≤_, _<_}
-use native.Mathlib.Nat.{add-zero, zero-add, add-suc, suc-add, mul-zero, mul-suc, mul-le-mul-left, le-refl, le-of-suc-le-suc}
+use native.Mathlib.Nat.{add-zero, zero-add, add-suc, suc-add, mul-zero, mul-suc, le-refl, le-of-suc-le-suc}
 use native.Mathlib.Numerals.{add-one}
 use native.Mathlib.Omega.{arith}
-use lib.ListN.{length, take, drop, getD, set, length-set, length-drop, take-append-drop}
-use lib.Seq.{sets, length-sets, sets-eq, drop-cons, drop-drop, drop-length, take-nil, drop-nil, drop-at, take-length, take-append-le, drop-append-le, length-take-le, set-append-left, set-comm, take-set-le, drop-set-lt, drop-set-add, getD-take, getD-drop, getD-set-same, getD-set-other}
+use lib.ListN.{length, take, drop, getD, set, length-set, length-drop}
+use lib.Seq.{sets, length-sets, sets-eq, drop-cons, drop-drop, drop-length, take-nil, drop-nil, drop-at, take-length, take-append-le, drop-append-le, length-take-le, set-append-left, take-set-le, drop-set-lt, drop-set-add, getD-take, getD-drop}
 use Rattle.text.specs.Patch.{patch}
 use Rattle.text.specs.Rows.{joined, rows}
 use Rattle.text.specs.Widths.{AllLong}
-use Rattle.text.proofs.RowLaws.{long-at, length-joined, rows-joined-rest, joined-rows, rows-long, length-rows}
 
 module _ {ℓ} {A : Type ℓ} where
   -- a loop that stores: one store, and the run from the next place on
@@ -47,18 +45,6 @@ module _ {ℓ} {A : Type ℓ} where
   sets-same (x ∷ l) zero zero = refl
   sets-same (x ∷ l) zero (suc n) = sets-cons x l zero (take n l) ∙ ap (λ r. x ∷ r) (sets-same l zero n)
   sets-same (x ∷ l) (suc i) n = sets-cons x l i (take n (drop i l)) ∙ ap (λ r. x ∷ r) (sets-same l i n)
-
-  -- a store in front of a run
-  set-sets : (l : List A) (k i : ℕ) (a : A) (vs : List A) → k < i → set (sets l i vs) k a ≡ sets (set l k a) i vs
-  set-sets l k i a [] h = refl
-  set-sets l k i a (v ∷ vs) h =
-      set-sets (set l i v) k (suc i) a vs (omega arith) ∙ rw (set-comm l i k v a (omega arith))
-
-  -- two runs that do not meet, in either order
-  pub sets-comm : (l : List A) (i j : ℕ) (xs ys : List A) → i + length xs ≤ j → sets (sets l i xs) j ys ≡ sets (sets l j ys) i xs
-  sets-comm l i j [] ys h = refl
-  sets-comm l i j (x ∷ xs) ys h =
-      sets-comm (set l i x) (suc i) j xs ys (omega arith) ∙ rw (← set-sets l i j x ys (omega arith))
 
   -- in front of the run nothing changed
   pub take-sets : (l : List A) (i : ℕ) (vs : List A) (n : ℕ) → n ≤ i → take n (sets l i vs) ≡ take n l
@@ -135,10 +121,6 @@ sets-joined w (r ∷ rs) zero o vs h g e = rw (mul-zero, zero-add) (sets-left r 
 sets-joined w (r ∷ rs) (suc k) o vs h g e =
     let q : w * suc k + o ≡ length r + (w * k + o) = omega (arith, mul-suc w k, h .0) in
     rw (q, sets-right r (joined rs) (w * k + o) vs, sets-joined w rs k o vs (h .1) (le-of-suc-le-suc g) e)
-
--- the row itself
-pub patch-row : (rs : List (List ℕ)) (k o : ℕ) (vs : List ℕ) → k < length rs → getD (patch rs k o vs) k [] ≡ sets (getD rs k []) o vs
-patch-row rs k o vs h = rw patch-set (getD-set-same rs k (sets (getD rs k []) o vs) [] h)
 
 -- a whole list written over another of the same length
 pub sets-whole : (l vs : List ℕ) → length vs ≡ length l → sets l 0 vs ≡ vs

@@ -28,6 +28,10 @@ pub const fn field(number: u8, first: usize, last: usize) -> Field {
 }
 
 impl Field {
+    pub fn number(self) -> u8 {
+        self.number
+    }
+
     /// How many bytes of its record come before the field.
     pub fn offset(self) -> usize {
         self.first - 1

@@ -80,6 +80,19 @@ pub mod batch_control {
     pub const RESERVED: Field = field(9, 74, 79);
     pub const ORIGINATOR: Field = field(10, 80, 87);
     pub const BATCH_NUMBER: Field = field(11, 88, 94);
+    /// All but the record type.
+    pub const ALL: [Field; 10] = [
+        CLASS,
+        COUNT,
+        HASH,
+        DEBIT,
+        CREDIT,
+        COMPANY_ID,
+        AUTHENTICATION,
+        RESERVED,
+        ORIGINATOR,
+        BATCH_NUMBER,
+    ];
 }
 
 /// Record 9.
@@ -92,4 +105,6 @@ pub mod file_control {
     pub const DEBIT: Field = field(6, 32, 43);
     pub const CREDIT: Field = field(7, 44, 55);
     pub const RESERVED: Field = field(8, 56, 94);
+    /// All but the record type.
+    pub const ALL: [Field; 7] = [BATCHES, BLOCKS, COUNT, HASH, DEBIT, CREDIT, RESERVED];
 }

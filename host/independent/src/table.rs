@@ -280,24 +280,15 @@ impl Former {
     }
 
     fn batch_control(&mut self) {
-        use batch_control::*;
-        let mut record = blank_record(b'8');
-        let header = &self.batch_header;
-        CLASS.put(&mut record, batch_header::CLASS.of(header));
-        self.batch.put_in_batch(&mut record);
-        COMPANY_ID.put(&mut record, batch_header::COMPANY_ID.of(header));
-        ORIGINATOR.put(&mut record, batch_header::ORIGINATOR.of(header));
-        BATCH_NUMBER.put(&mut record, batch_header::BATCH_NUMBER.of(header));
+        let record = self.batch.batch_control(&self.batch_header);
         self.push(&record);
     }
 
     fn file_control(&mut self) {
-        let mut record = blank_record(b'9');
         let record_number = self.file.len() / self.way.record_length() + 1;
-        let blocks = record_number.div_ceil(RECORDS_IN_BLOCK);
-        self.whole.put_in_file(&mut record, self.batches, blocks as u64);
+        let record = self.whole.file_control(self.batches, record_number);
         self.push(&record);
-        for _ in record_number..blocks * RECORDS_IN_BLOCK {
+        for _ in record_number..record_number.next_multiple_of(RECORDS_IN_BLOCK) {
             self.push(&FILLER);
         }
     }
@@ -315,6 +306,26 @@ impl Controls {
             Some(Side::Credit) => self.credit += amount,
             None => (),
         }
+    }
+
+    /// The control of a batch whose entries come to this.
+    pub fn batch_control(&self, header: &Record) -> Record {
+        use batch_control::*;
+        let mut record = blank_record(b'8');
+        CLASS.put(&mut record, batch_header::CLASS.of(header));
+        self.put_in_batch(&mut record);
+        COMPANY_ID.put(&mut record, batch_header::COMPANY_ID.of(header));
+        ORIGINATOR.put(&mut record, batch_header::ORIGINATOR.of(header));
+        BATCH_NUMBER.put(&mut record, batch_header::BATCH_NUMBER.of(header));
+        record
+    }
+
+    /// The control of a file whose entries come to this, as the record of the given number.
+    pub fn file_control(&self, batches: u64, record_number: usize) -> Record {
+        let mut record = blank_record(b'9');
+        let blocks = record_number.div_ceil(RECORDS_IN_BLOCK);
+        self.put_in_file(&mut record, batches, blocks as u64);
+        record
     }
 
     pub fn put_in_batch(&self, record: &mut Record) {

@@ -1,0 +1,1 @@
+// What mending keeps and leaves: theorems, with no code of its own.
