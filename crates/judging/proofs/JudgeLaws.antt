@@ -56,7 +56,7 @@ module _ (way : Way) (f : List ℕ) where
   nines-end n at h = ap (onlyNines n) (raw-end way f at h)
 
   -- the records behind k of them
-  raw-drop : (k : ℕ) → recordBytes way * k ≤ length f → rawFrom way f (recordBytes way * k) ≡ drop k (rawRecords way f)
+  pub raw-drop : (k : ℕ) → recordBytes way * k ≤ length f → rawFrom way f (recordBytes way * k) ≡ drop k (rawRecords way f)
   raw-drop zero h = ap (rawFrom way f) (mul-zero (recordBytes way)) ∙ raw-whole way f
   raw-drop (suc k) h =
       let at = recordBytes way * k in

@@ -34,6 +34,7 @@ use Rattle.mended.proofs.Together.{columns-type}
 use Rattle.judging.specs.Judge.{NineAt}
 use Rattle.judging.proofs.JudgeLaws.{nine-few}
 use Rattle.renewing.specs.Renewed.{endFrom, Bodied}
+use Rattle.renewing.proofs.WalkLaws.{past-sums, past-header, next-inside, one-more, Walked, walked-first, walked-room, walked-few, walked-parts, walked-ends, walked-on, counted-all}
 
 joined-cons : (x : List ℕ) (xs : List (List ℕ)) → joined (x ∷ xs) ≡ x ++ joined xs
 unfolding joined
@@ -50,13 +51,6 @@ pub refilled-put : (m c r : List ℕ) (at : ℕ) → length c ≡ 94 → 94 ≤ 
 refilled-put m c r at l h =
     let back : take (length r - 94) (drop 94 r) ≡ drop 94 r = take-all (length r - 94) (drop 94 r) (simp length-drop (omega arith)) in
     ap (sets (sets m at c) (at + 94)) back ∙ sym (sets-append m at c (drop 94 r) ∙ ap (λ n. sets (sets m at c) (at + n) (drop 94 r)) l)
-
--- what is told by a record is told by its columns
-pub past-sums : (s : Sums) (r : List ℕ) → sumsPast s (take 94 r) ≡ sumsPast s r
-past-sums s r = ap₂ (λ b t. nextSums s (lineBy b) t) (columns-type r) (take-take 94 94 r (omega arith))
-
-pub past-header : (h r : List ℕ) → headerPast h (take 94 r) ≡ headerPast h r
-past-header h r = ap₂ (λ b t. nextHeader h (lineBy b) t) (columns-type r) (take-take 94 94 r (omega arith))
 
 -- ---- fillers
 
@@ -110,53 +104,10 @@ filling-on way m₀ to₀ left₀ m to left filler m₁ m₂ h e f g p =
 pub filling-end : (way : Way) (m₀ : List ℕ) (to₀ left₀ : ℕ) (m : List ℕ) (to left : ℕ) → Filling way m₀ to₀ left₀ m to left → left ≤ 0 → m ≡ sets m₀ to₀ (fillersOf way left₀)
 filling-end way m₀ to₀ left₀ m to left p h = sym (fillers-end way m to left h) ∙ p .makes
 
--- ---- the numbers of the walk
-
-next-inside : (way : Way) (at r k n : ℕ) → at ≡ recordBytes way * r → r ≤ k → recordBytes way * (k + 1) ≤ n → at + recordBytes way ≤ n
-next-inside Way.Plain at r k n e h l = omega arith
-next-inside Way.Lined at r k n e h l = omega arith
-
-next-place : (way : Way) (at r : ℕ) → at ≡ recordBytes way * r → at + recordBytes way ≡ recordBytes way * (r + 1)
-next-place Way.Plain at r e = omega arith
-next-place Way.Lined at r e = omega arith
-
-one-more : (way : Way) (n : ℕ) → recordBytes way * suc n ≡ recordBytes way + recordBytes way * n
-one-more Way.Plain n = omega arith
-one-more Way.Lined n = omega arith
-
-part-le : (a b k : ℕ) → a + b ≡ k → a ≤ k
-part-le a b k e = omega arith
-
-less-than : (a b k n : ℕ) → a + b ≡ k → n ≡ k → n < 1000000 → a < 1000000
-less-than a b k n e q h = omega arith
-
-some-none : (a b : ℕ) → a ≡ b → b ≡ 0 → 0 < a → ⊥
-some-none a b e z h = omega arith
-
-none-some : (a b c : ℕ) → a ≡ b → b ≡ 1 + c → a ≤ 0 → ⊥
-none-some a b c e z h = omega arith
-
-less-one : (a b c : ℕ) → a ≡ b → b ≡ 1 + c → a - 1 ≡ c
-less-one a b c e z = omega arith
-
-count-next : (a b l k : ℕ) → a + l ≡ k → b ≡ a + 1 → 0 < l → b + (l - 1) ≡ k
-count-next a b l k e f h = omega arith
-
 module _ (way : Way) (f held : List ℕ) where
-  -- the 9 stands in the file
-  abbrev pub Inside : Type 0
-  Inside = recordBytes way * (nineAt (rawRecords way f) + 1) ≤ length f
-
-  pub nine-inside : (n : ℕ) → NineAt way f n → Inside
-  nine-inside n a = subst (λ k. recordBytes way * (k + 1) ≤ length f) (a .before) (a .inside)
-
-  -- `left` records stand before the 9 from byte `at` on, behind one of type `last`
+  -- on the walk along the records before the 9, the mended file from byte `at` on is still to put
   pub record Putting (last : ℕ) (s : Sums) (h m : List ℕ) (at left : ℕ) : Type 0 where
-    pub small : Small s
-    pub header : length h ≡ 94
-    pub place : at ≡ recordBytes way * s .records
-    pub nine : left ≡ beforeNine last (rawFrom way f at)
-    pub count : s .records + left ≡ nineAt (rawRecords way f)
+    pub walk : Walked way f last s h at left
     pub makes : Left (mendedFile way f) held m at (joined (mendedFrom way last s h (rawFrom way f at)))
 
   abbrev pub Put : Sums → List ℕ → List ℕ → ℕ → ℕ → Type 0
@@ -166,11 +117,7 @@ module _ (way : Way) (f held : List ℕ) where
   first n a room g = (
     0,
     record {
-      small = g .sums;
-      header = refl;
-      place = zero-at way;
-      nine = a .before ∙ ap (beforeNine 0) (sym (raw-whole way f));
-      count = zero-add n ∙ a .before;
+      walk = walked-first way f n a g;
       makes =
           left-first (mendedFile way f) held (joined (mendedFrom way 0 (start .sums) (start .header) (rawFrom way f 0)))
           (ap (λ rs. joined (mendedFrom way 0 (start .sums) (start .header) rs)) (raw-whole way f)) room;
@@ -180,36 +127,20 @@ module _ (way : Way) (f held : List ℕ) where
   pub put-first : (st : State) (n : ℕ) → st ≡ start → Fair st → NineAt way f n → length (mendedFile way f) ≤ length held → Put (st .sums) (st .header) held 0 n
   put-first st n e g a room = subst (λ (x : State). Put (x .sums) (x .header) held 0 n) (sym e) (first n a room (subst Fair e g))
 
-  module _ (ok : Inside) (last : ℕ) (s : Sums) (h m : List ℕ) (at left : ℕ) (p : Putting last s h m at left) where
+  module _ (n : ℕ) (a : NineAt way f n) (last : ℕ) (s : Sums) (h m : List ℕ) (at left : ℕ) (p : Putting last s h m at left) where
     abbrev r : List ℕ
     r = rawAt way f at
 
     abbrev rest : List (List ℕ)
     rest = rawFrom way f (at + recordBytes way)
 
-    room : at + recordBytes way ≤ length f
-    room = next-inside way at (s .records) (nineAt (rawRecords way f)) (length f) (p .place) (part-le (s .records) left (nineAt (rawRecords way f)) (p .count)) ok
-
-    other-here : 0 < left → endsFile last r ≡ false
-    other-here k =
-        by-test (endsFile last r)
-        (λ e. absurd (some-none left (beforeNine last (rawFrom way f at)) (p .nine) (ap (beforeNine last) (raw-next way f at room) ∙ nine-here last r rest e) k))
-        (λ e. e)
-
-    nine-there : left ≤ 0 → endsFile last r ≡ true
-    nine-there k =
-        by-test (endsFile last r)
-        (λ e. e)
-        (λ e. absurd (none-some left (beforeNine last (rawFrom way f at)) (beforeNine (typeOf r) rest) (p .nine) (ap (beforeNine last) (raw-next way f at room) ∙ nine-later last r rest e) k))
-
     parts : 0 < left → joined (mendedFrom way last s h (rawFrom way f at)) ≡ mendedRecord s h r ++ joined (mendedFrom way (typeOf r) (sumsPast s r) (headerPast h r) rest)
     parts k =
-        ap (λ rs. joined (mendedFrom way last s h rs)) (raw-next way f at room)
-        ∙ ap joined (at-other way last s h r rest (other-here k))
+        ap joined (walked-parts way f n a last s h at left (p .walk) k)
         ∙ joined-cons (mendedRecord s h r) (mendedFrom way (typeOf r) (sumsPast s r) (headerPast h r) rest)
 
     part-long : length (mendedRecord s h r) ≡ recordBytes way
-    part-long = record-long way s h r (eqb (typeOf r) 56 && ltb 0 (s .batches)) (p .header) (raw-long way f at room)
+    part-long = record-long way s h r (eqb (typeOf r) 56 && ltb 0 (s .batches)) (p .walk .header) (raw-long way f at (walked-room way f n a last s h at left (p .walk)))
 
     part-room : 0 < left → at + recordBytes way ≤ length m
     part-room k =
@@ -217,41 +148,29 @@ module _ (way : Way) (f held : List ℕ) where
 
     putting-on : 0 < left → Small (sumsPast s r) → Putting (typeOf r) (sumsPast s r) (headerPast h r) (sets m at (mendedRecord s h r)) (at + recordBytes way) (left - 1)
     putting-on k small =
-        let e = other-here k in
-        let counted = records-next s (lineBy (typeOf r)) (take 94 r) in
         record {
-          small = small;
-          header = header-long h (lineBy (typeOf r)) (take 94 r) (p .header) (ap length (columns-of way f at) ∙ columns-long way f at room);
-          place = next-place way at (s .records) (p .place) ∙ ap (λ n. recordBytes way * n) (sym counted);
-          nine = less-one left (beforeNine last (rawFrom way f at)) (beforeNine (typeOf r) rest) (p .nine) (ap (beforeNine last) (raw-next way f at room) ∙ nine-later last r rest e);
-          count = count-next (s .records) (sumsPast s r .records) left (nineAt (rawRecords way f)) (p .count) counted k;
+          walk = walked-on way f n a last s h at left (p .walk) k small;
           makes = left-on (mendedRecord s h r) (joined (mendedFrom way (typeOf r) (sumsPast s r) (headerPast h r) rest)) (recordBytes way) (parts k) part-long (p .makes);
         }
 
-    ends : left ≤ 0 → joined (mendedFrom way last s h (rawFrom way f at)) ≡ joined (mendedEnd way s r)
-    ends k = ap (λ rs. joined (mendedFrom way last s h rs)) (raw-next way f at room) ∙ ap joined (at-nine way last s h r rest (nine-there k))
-
     bodied : left ≤ 0 → Bodied way f held s m
     bodied k =
+        let ends = ap joined (walked-ends way f n a last s h at left (p .walk) k) in
         let done : Left (mendedFile way f) held m (recordBytes way * s .records) (endFrom way f s) =
-        subst (λ a. Left (mendedFile way f) held m a (joined (mendedEnd way s (rawAt way f a)))) (p .place) (subst (λ more. Left (mendedFile way f) held m at more) (ends k) (p .makes)) in
-        record { small = p .small; count = count-done (s .records) left (nineAt (rawRecords way f)) (p .count) k; room = done .room; makes = done .makes }
-      where
-        count-done : (a l k : ℕ) → a + l ≡ k → l ≤ 0 → a ≡ k
-        count-done a l k e h = omega arith
+        subst (λ b. Left (mendedFile way f) held m b (joined (mendedEnd way s (rawAt way f b)))) (p .walk .place) (subst (λ more. Left (mendedFile way f) held m at more) ends (p .makes)) in
+        record { small = p .walk .small; count = counted-all way f n a last s h at left (p .walk) k; room = done .room; makes = done .makes }
 
   -- ---- as the code has it
 
   module _ (n : ℕ) (a : NineAt way f n) (s : Sums) (h m : List ℕ) (at left : ℕ) (p : Put s h m at left) where
     pub put-inside : at + recordBytes way ≤ length f
-    put-inside = room (nine-inside n a) (p .0) s h m at left (p .1)
+    put-inside = walked-room way f n a (p .0) s h at left (p .1 .walk)
 
     pub put-room : 0 < left → at + recordBytes way ≤ length m
-    put-room k = part-room (nine-inside n a) (p .0) s h m at left (p .1) k
+    put-room k = part-room n a (p .0) s h m at left (p .1) k
 
     pub put-few : lengthFits way (length f) ≡ true → 0 < left → s .records < 1000000
-    put-few b k =
-        less-than (s .records) left (nineAt (rawRecords way f)) n (p .1 .count) (a .before) (nine-few way f n b a)
+    put-few b k = walked-few way f n a (p .0) s h at left (p .1 .walk) b
 
     pub put-on : (raw : List ℕ) (s′ : Sums) (h′ m′ : List ℕ) → 0 < left → raw ≡ rawAt way f at → s′ ≡ sumsPast s (take 94 raw) → Small s′ → h′ ≡ headerPast h (take 94 raw)
         → m′ ≡ sets m at (mendedRecord s h raw) → Put s′ h′ m′ (at + recordBytes way) (left - 1)
@@ -260,13 +179,13 @@ module _ (way : Way) (f held : List ℕ) where
         let header = g ∙ past-header h raw ∙ ap (headerPast h) q in
         let made = d ∙ ap (λ x. sets m at (mendedRecord s h x)) q in
         let on : Put (sumsPast s (rawAt way f at)) (headerPast h (rawAt way f at)) (sets m at (mendedRecord s h (rawAt way f at))) (at + recordBytes way) (left - 1) =
-        (typeOf (rawAt way f at), putting-on (nine-inside n a) (p .0) s h m at left (p .1) k (subst Small sums small)) in
+        (typeOf (rawAt way f at), putting-on n a (p .0) s h m at left (p .1) k (subst Small sums small)) in
         subst (λ x. Put s′ h′ x (at + recordBytes way) (left - 1)) (sym made)
         (subst (λ x. Put s′ x (sets m at (mendedRecord s h (rawAt way f at))) (at + recordBytes way) (left - 1)) (sym header)
         (subst (λ x. Put x (headerPast h (rawAt way f at)) (sets m at (mendedRecord s h (rawAt way f at))) (at + recordBytes way) (left - 1)) (sym sums) on))
 
     pub put-end : left ≤ 0 → Bodied way f held s m
-    put-end k = bodied (nine-inside n a) (p .0) s h m at left (p .1) k
+    put-end k = bodied n a (p .0) s h m at left (p .1) k
 
     pub put-long : length m ≡ length held
     put-long = left-length (p .1 .makes)

@@ -17,7 +17,7 @@ ghost use Rattle.judging.specs.Judge.{NineAt};
 ghost use Rattle.renewing.specs.Renewed.{Bodied};
 
 // How many fillers fill the block behind so many records.
-fn fillers(n: usize) -> usize
+pub fn fillers(n: usize) -> usize
     ensures { λ r. ⌜ (r ≡ fillersAfter n) × (r < 10) ⌝ }
 {
     (10 - n % 10) % 10

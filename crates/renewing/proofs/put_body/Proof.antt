@@ -53,11 +53,11 @@ part-raw-end c = omega (arith, (c .record-bytes) .ensures, put-inside ((c .befor
 
 -- src/lib.rt:82:26
 slice-aggregate-put-record : tie.Need-slice-aggregate-put-record Inv-loop μ-loop
-slice-aggregate-put-record c = sym ((c .before .before .before .before .loop) .inv .1 .header)
+slice-aggregate-put-record c = sym ((c .before .before .before .before .loop) .inv .1 .walk .header)
 
 -- src/lib.rt:82:9
 put-record-requires : tie.Need-put-record-requires Inv-loop μ-loop
-put-record-requires c κs = ((c .before .before .before .before .before .loop) .inv .1 .header, omega (arith, (ap length (ap (λ w. take ((c .before .before .before .before .before .loop) .at + w - (c .before .before .before .before .before .loop) .at) (drop ((c .before .before .before .before .before .loop) .at) ((c .before .before .before .before .before .before .before .before .before .before .before .args) .file .now))) ((c .before .before .before .record-bytes) .ensures)) ∙ raw-long ((c .before .before .before .before .before .before .before .before .before .before .before .args) .way) ((c .before .before .before .before .before .before .before .before .before .before .before .args) .file .now) ((c .before .before .before .before .before .loop) .at) (put-inside ((c .before .before .before .before .before .before .before .before .before .before .before .args) .way) ((c .before .before .before .before .before .before .before .before .before .before .before .args) .file .now) ((c .before .before .before .before .before .before .before .before .before .before .before .args) .mended .now) ((c .before .before .before .before .before .before .before .before .before .before .before .args) .before) ((c .before .before .before .before .before .before .before .before .before .before .before .pre) .1) ((c .before .before .before .before .before .loop) .sums) ((c .before .before .before .before .before .loop) .header) ((c .before .before .before .before .before .loop) .mended) ((c .before .before .before .before .before .loop) .at) ((c .before .before .before .before .before .loop) .left) ((c .before .before .before .before .before .loop) .inv)))), omega (arith, (ap length (ap (λ w. take ((c .before .before .before .before .before .loop) .at + w - (c .before .before .before .before .before .loop) .at) (drop ((c .before .before .before .before .before .loop) .at) ((c .before .before .before .before .before .before .before .before .before .before .before .args) .file .now))) ((c .before .before .before .record-bytes) .ensures)) ∙ raw-long ((c .before .before .before .before .before .before .before .before .before .before .before .args) .way) ((c .before .before .before .before .before .before .before .before .before .before .before .args) .file .now) ((c .before .before .before .before .before .loop) .at) (put-inside ((c .before .before .before .before .before .before .before .before .before .before .before .args) .way) ((c .before .before .before .before .before .before .before .before .before .before .before .args) .file .now) ((c .before .before .before .before .before .before .before .before .before .before .before .args) .mended .now) ((c .before .before .before .before .before .before .before .before .before .before .before .args) .before) ((c .before .before .before .before .before .before .before .before .before .before .before .pre) .1) ((c .before .before .before .before .before .loop) .sums) ((c .before .before .before .before .before .loop) .header) ((c .before .before .before .before .before .loop) .mended) ((c .before .before .before .before .before .loop) .at) ((c .before .before .before .before .before .loop) .left) ((c .before .before .before .before .before .loop) .inv))), put-room ((c .before .before .before .before .before .before .before .before .before .before .before .args) .way) ((c .before .before .before .before .before .before .before .before .before .before .before .args) .file .now) ((c .before .before .before .before .before .before .before .before .before .before .before .args) .mended .now) ((c .before .before .before .before .before .before .before .before .before .before .before .args) .before) ((c .before .before .before .before .before .before .before .before .before .before .before .pre) .1) ((c .before .before .before .before .before .loop) .sums) ((c .before .before .before .before .before .loop) .header) ((c .before .before .before .before .before .loop) .mended) ((c .before .before .before .before .before .loop) .at) ((c .before .before .before .before .before .loop) .left) ((c .before .before .before .before .before .loop) .inv) ((c .before .before .before .before .loop-test) .taken)))
+put-record-requires c κs = ((c .before .before .before .before .before .loop) .inv .1 .walk .header, omega (arith, (ap length (ap (λ w. take ((c .before .before .before .before .before .loop) .at + w - (c .before .before .before .before .before .loop) .at) (drop ((c .before .before .before .before .before .loop) .at) ((c .before .before .before .before .before .before .before .before .before .before .before .args) .file .now))) ((c .before .before .before .record-bytes) .ensures)) ∙ raw-long ((c .before .before .before .before .before .before .before .before .before .before .before .args) .way) ((c .before .before .before .before .before .before .before .before .before .before .before .args) .file .now) ((c .before .before .before .before .before .loop) .at) (put-inside ((c .before .before .before .before .before .before .before .before .before .before .before .args) .way) ((c .before .before .before .before .before .before .before .before .before .before .before .args) .file .now) ((c .before .before .before .before .before .before .before .before .before .before .before .args) .mended .now) ((c .before .before .before .before .before .before .before .before .before .before .before .args) .before) ((c .before .before .before .before .before .before .before .before .before .before .before .pre) .1) ((c .before .before .before .before .before .loop) .sums) ((c .before .before .before .before .before .loop) .header) ((c .before .before .before .before .before .loop) .mended) ((c .before .before .before .before .before .loop) .at) ((c .before .before .before .before .before .loop) .left) ((c .before .before .before .before .before .loop) .inv)))), omega (arith, (ap length (ap (λ w. take ((c .before .before .before .before .before .loop) .at + w - (c .before .before .before .before .before .loop) .at) (drop ((c .before .before .before .before .before .loop) .at) ((c .before .before .before .before .before .before .before .before .before .before .before .args) .file .now))) ((c .before .before .before .record-bytes) .ensures)) ∙ raw-long ((c .before .before .before .before .before .before .before .before .before .before .before .args) .way) ((c .before .before .before .before .before .before .before .before .before .before .before .args) .file .now) ((c .before .before .before .before .before .loop) .at) (put-inside ((c .before .before .before .before .before .before .before .before .before .before .before .args) .way) ((c .before .before .before .before .before .before .before .before .before .before .before .args) .file .now) ((c .before .before .before .before .before .before .before .before .before .before .before .args) .mended .now) ((c .before .before .before .before .before .before .before .before .before .before .before .args) .before) ((c .before .before .before .before .before .before .before .before .before .before .before .pre) .1) ((c .before .before .before .before .before .loop) .sums) ((c .before .before .before .before .before .loop) .header) ((c .before .before .before .before .before .loop) .mended) ((c .before .before .before .before .before .loop) .at) ((c .before .before .before .before .before .loop) .left) ((c .before .before .before .before .before .loop) .inv))), put-room ((c .before .before .before .before .before .before .before .before .before .before .before .args) .way) ((c .before .before .before .before .before .before .before .before .before .before .before .args) .file .now) ((c .before .before .before .before .before .before .before .before .before .before .before .args) .mended .now) ((c .before .before .before .before .before .before .before .before .before .before .before .args) .before) ((c .before .before .before .before .before .before .before .before .before .before .before .pre) .1) ((c .before .before .before .before .before .loop) .sums) ((c .before .before .before .before .before .loop) .header) ((c .before .before .before .before .before .loop) .mended) ((c .before .before .before .before .before .loop) .at) ((c .before .before .before .before .before .loop) .left) ((c .before .before .before .before .before .loop) .inv) ((c .before .before .before .before .loop-test) .taken)))
 
 -- src/lib.rt:83:23
 sub-columns : tie.Need-sub-columns Inv-loop μ-loop
@@ -73,7 +73,7 @@ part-columns-end c = omega (arith, (ap length (ap (λ w. take ((c .before .befor
 
 -- src/lib.rt:84:9
 sums-past-requires : tie.Need-sums-past-requires Inv-loop μ-loop
-sums-past-requires c κs = ((c .before .before .before .before .before .before .before .before .before .loop) .inv .1 .small, put-few ((c .before .before .before .before .before .before .before .before .before .before .before .before .before .before .before .args) .way) ((c .before .before .before .before .before .before .before .before .before .before .before .before .before .before .before .args) .file .now) ((c .before .before .before .before .before .before .before .before .before .before .before .before .before .before .before .args) .mended .now) ((c .before .before .before .before .before .before .before .before .before .before .before .before .before .before .before .args) .before) ((c .before .before .before .before .before .before .before .before .before .before .before .before .before .before .before .pre) .1) ((c .before .before .before .before .before .before .before .before .before .loop) .sums) ((c .before .before .before .before .before .before .before .before .before .loop) .header) ((c .before .before .before .before .before .before .before .before .before .loop) .mended) ((c .before .before .before .before .before .before .before .before .before .loop) .at) ((c .before .before .before .before .before .before .before .before .before .loop) .left) ((c .before .before .before .before .before .before .before .before .before .loop) .inv) ((c .before .before .before .before .before .before .before .before .before .before .before .before .before .before .before .pre) .0) ((c .before .before .before .before .before .before .before .before .loop-test) .taken), length-take-le 94 (take ((c .before .before .before .before .before .before .before .before .before .loop) .at + (c .before .before .before .before .before .before .before .record-bytes) .result - (c .before .before .before .before .before .before .before .before .before .loop) .at) (drop ((c .before .before .before .before .before .before .before .before .before .loop) .at) ((c .before .before .before .before .before .before .before .before .before .before .before .before .before .before .before .args) .file .now))) (omega (arith, (ap length (ap (λ w. take ((c .before .before .before .before .before .before .before .before .before .loop) .at + w - (c .before .before .before .before .before .before .before .before .before .loop) .at) (drop ((c .before .before .before .before .before .before .before .before .before .loop) .at) ((c .before .before .before .before .before .before .before .before .before .before .before .before .before .before .before .args) .file .now))) ((c .before .before .before .before .before .before .before .record-bytes) .ensures)) ∙ raw-long ((c .before .before .before .before .before .before .before .before .before .before .before .before .before .before .before .args) .way) ((c .before .before .before .before .before .before .before .before .before .before .before .before .before .before .before .args) .file .now) ((c .before .before .before .before .before .before .before .before .before .loop) .at) (put-inside ((c .before .before .before .before .before .before .before .before .before .before .before .before .before .before .before .args) .way) ((c .before .before .before .before .before .before .before .before .before .before .before .before .before .before .before .args) .file .now) ((c .before .before .before .before .before .before .before .before .before .before .before .before .before .before .before .args) .mended .now) ((c .before .before .before .before .before .before .before .before .before .before .before .before .before .before .before .args) .before) ((c .before .before .before .before .before .before .before .before .before .before .before .before .before .before .before .pre) .1) ((c .before .before .before .before .before .before .before .before .before .loop) .sums) ((c .before .before .before .before .before .before .before .before .before .loop) .header) ((c .before .before .before .before .before .before .before .before .before .loop) .mended) ((c .before .before .before .before .before .before .before .before .before .loop) .at) ((c .before .before .before .before .before .before .before .before .before .loop) .left) ((c .before .before .before .before .before .before .before .before .before .loop) .inv))))))
+sums-past-requires c κs = ((c .before .before .before .before .before .before .before .before .before .loop) .inv .1 .walk .small, put-few ((c .before .before .before .before .before .before .before .before .before .before .before .before .before .before .before .args) .way) ((c .before .before .before .before .before .before .before .before .before .before .before .before .before .before .before .args) .file .now) ((c .before .before .before .before .before .before .before .before .before .before .before .before .before .before .before .args) .mended .now) ((c .before .before .before .before .before .before .before .before .before .before .before .before .before .before .before .args) .before) ((c .before .before .before .before .before .before .before .before .before .before .before .before .before .before .before .pre) .1) ((c .before .before .before .before .before .before .before .before .before .loop) .sums) ((c .before .before .before .before .before .before .before .before .before .loop) .header) ((c .before .before .before .before .before .before .before .before .before .loop) .mended) ((c .before .before .before .before .before .before .before .before .before .loop) .at) ((c .before .before .before .before .before .before .before .before .before .loop) .left) ((c .before .before .before .before .before .before .before .before .before .loop) .inv) ((c .before .before .before .before .before .before .before .before .before .before .before .before .before .before .before .pre) .0) ((c .before .before .before .before .before .before .before .before .loop-test) .taken), length-take-le 94 (take ((c .before .before .before .before .before .before .before .before .before .loop) .at + (c .before .before .before .before .before .before .before .record-bytes) .result - (c .before .before .before .before .before .before .before .before .before .loop) .at) (drop ((c .before .before .before .before .before .before .before .before .before .loop) .at) ((c .before .before .before .before .before .before .before .before .before .before .before .before .before .before .before .args) .file .now))) (omega (arith, (ap length (ap (λ w. take ((c .before .before .before .before .before .before .before .before .before .loop) .at + w - (c .before .before .before .before .before .before .before .before .before .loop) .at) (drop ((c .before .before .before .before .before .before .before .before .before .loop) .at) ((c .before .before .before .before .before .before .before .before .before .before .before .before .before .before .before .args) .file .now))) ((c .before .before .before .before .before .before .before .record-bytes) .ensures)) ∙ raw-long ((c .before .before .before .before .before .before .before .before .before .before .before .before .before .before .before .args) .way) ((c .before .before .before .before .before .before .before .before .before .before .before .before .before .before .before .args) .file .now) ((c .before .before .before .before .before .before .before .before .before .loop) .at) (put-inside ((c .before .before .before .before .before .before .before .before .before .before .before .before .before .before .before .args) .way) ((c .before .before .before .before .before .before .before .before .before .before .before .before .before .before .before .args) .file .now) ((c .before .before .before .before .before .before .before .before .before .before .before .before .before .before .before .args) .mended .now) ((c .before .before .before .before .before .before .before .before .before .before .before .before .before .before .before .args) .before) ((c .before .before .before .before .before .before .before .before .before .before .before .before .before .before .before .pre) .1) ((c .before .before .before .before .before .before .before .before .before .loop) .sums) ((c .before .before .before .before .before .before .before .before .before .loop) .header) ((c .before .before .before .before .before .before .before .before .before .loop) .mended) ((c .before .before .before .before .before .before .before .before .before .loop) .at) ((c .before .before .before .before .before .before .before .before .before .loop) .left) ((c .before .before .before .before .before .before .before .before .before .loop) .inv))))))
 
 -- src/lib.rt:85:18
 header-past-requires : tie.Need-header-past-requires Inv-loop μ-loop
