@@ -5,3 +5,4 @@ pub mod Numbers
 pub mod Running
 pub mod Together
 pub mod Granted
+pub mod Says
