@@ -6,3 +6,4 @@ pub mod Running
 pub mod Together
 pub mod Granted
 pub mod Says
+pub mod Changes

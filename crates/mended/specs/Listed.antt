@@ -1,0 +1,77 @@
+-- The list of a mending, row by row: which field of which record a row is of, and what that field says in either file.
+use Prim.Native.Nat.{ℕ, _+_, _-_, _*_, _/_, _%_, _≤_, _<_}
+use mathlib.Core.Path.{_≡_}
+use mathlib.Core.List.{List, [], _∷_, _++_}
+use lib.Dec.{eqb}
+use lib.ListN.{length, getD, take, drop}
+use Rattle.text.specs.Decimal.{pick, value}
+use Rattle.layout.specs.declared.Row.{Row}
+use Rattle.layout.specs.declared.Way.{Way}
+use Rattle.layout.specs.Fields.{noRow, part, batchControl, fileControl}
+use Rattle.layout.specs.Ways.{recordBytes}
+use Rattle.records.specs.Run.{rawRecords}
+use Rattle.mending.specs.Mending.{typeOf, mendedRecords, mendedFile, nineAt, changeRow, changesFrom, fillerChanges}
+
+-- the rows of the list's three sections: those of the 8s before the 9, those of the 9, and the one of the fillers
+abbrev pub batchRows : Way → List ℕ → List (List ℕ)
+batchRows way f =
+    changesFrom 56 batchControl 1 (take (nineAt (rawRecords way f)) (rawRecords way f)) (mendedRecords way (rawRecords way f))
+
+abbrev pub fileRows : Way → List ℕ → List (List ℕ)
+fileRows way f =
+    changesFrom 57 fileControl (nineAt (rawRecords way f) + 1) (take 1 (drop (nineAt (rawRecords way f)) (rawRecords way f)))
+    (drop (nineAt (rawRecords way f)) (mendedRecords way (rawRecords way f)))
+
+abbrev pub fillerRows : Way → List ℕ → List (List ℕ)
+fillerRows way f =
+    fillerChanges (length (drop (nineAt (rawRecords way f) + 1) (rawRecords way f)))
+    (length (drop (nineAt (rawRecords way f) + 1) (mendedRecords way (rawRecords way f))))
+
+-- all rows of fields
+abbrev pub fieldRows : Way → List ℕ → List (List ℕ)
+fieldRows way f = batchRows way f ++ fileRows way f
+
+-- the fields of a control, by its type
+abbrev pub tableBy : ℕ → List Row
+tableBy b = pick (eqb b 56) batchControl (pick (eqb b 57) fileControl [])
+
+-- record n of a file, from 1; its fields, and the text of field k, from 1
+abbrev pub recordAt : Way → List ℕ → ℕ → List ℕ
+recordAt way f n = getD (rawRecords way f) (n - 1) []
+
+abbrev pub fieldsAt : Way → List ℕ → ℕ → List Row
+fieldsAt way f n = tableBy (typeOf (recordAt way f n))
+
+abbrev pub textAt : Way → List ℕ → ℕ → ℕ → List ℕ
+textAt way f n k = part (fieldsAt way f n) k (recordAt way f n)
+
+-- the row that field k of record n has where it has one: the text in the lent file, then that in the mended file
+abbrev pub rowFor : Way → List ℕ → ℕ → ℕ → List ℕ
+rowFor way f n k = changeRow n k (textAt way f n k) (textAt way (mendedFile way f) n k)
+
+-- a row stands in a list
+pub record Has (rows : List (List ℕ)) (row : List ℕ) : Type 0 where
+  pub at : ℕ
+  pub inside : at < length rows
+  pub there : getD rows at [] ≡ row
+
+-- the byte at place p, from 0, stands in the columns of a field that is listed
+pub record ListedAt (way : Way) (f : List ℕ) (p : ℕ) : Type 0 where
+  pub field : ℕ
+  pub known : (1 ≤ field) × (field ≤ length (fieldsAt way f (p / recordBytes way + 1)))
+  pub from : getD (fieldsAt way f (p / recordBytes way + 1)) (field - 1) noRow .first ≤ p % recordBytes way + 1
+  pub to : p % recordBytes way + 1 ≤ getD (fieldsAt way f (p / recordBytes way + 1)) (field - 1) noRow .last
+  pub listed : Has (fieldRows way f) (rowFor way f (p / recordBytes way + 1) field)
+
+-- a row is the one of a field that is not the same in the two files
+pub record TrueRow (way : Way) (f row : List ℕ) : Type 0 where
+  pub number : ℕ
+  pub field : ℕ
+  pub numbered : (1 ≤ number) × (number ≤ nineAt (rawRecords way f) + 1)
+  pub known : (1 ≤ field) × (field ≤ length (fieldsAt way f number))
+  pub form : row ≡ rowFor way f number field
+  pub differs : textAt way f number field ≡ textAt way (mendedFile way f) number field → ⊥
+
+-- what a row's first nine digits write: the record's number, then the field's
+abbrev pub keyOf : List ℕ → ℕ
+keyOf row = value (take 9 row)
