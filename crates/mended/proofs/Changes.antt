@@ -30,11 +30,11 @@ textOf table q r = columns (getD table q noRow .first) (getD table q noRow .last
 
 -- ---- rows in lists
 
-has-left : (xs ys : List (List ℕ)) (row : List ℕ) → Has xs row → Has (xs ++ ys) row
+pub has-left : (xs ys : List (List ℕ)) (row : List ℕ) → Has xs row → Has (xs ++ ys) row
 has-left xs ys row h =
     record { at = h .at; inside = omega (arith, length-append xs ys, h .inside); there = List·getD-append xs ys [] (h .at) (h .inside) ∙ h .there }
 
-has-right : (xs ys : List (List ℕ)) (row : List ℕ) → Has ys row → Has (xs ++ ys) row
+pub has-right : (xs ys : List (List ℕ)) (row : List ℕ) → Has ys row → Has (xs ++ ys) row
 has-right xs ys row h =
     record { at = length xs + h .at; inside = omega (arith, length-append xs ys, h .inside); there = getD-append-add xs ys (h .at) [] ∙ h .there }
 
@@ -105,7 +105,7 @@ module _ (type : ℕ) (table : List Row) where
 
 -- ---- a row is of a field that differs
 
-all-map : (P Q : List ℕ → Type 0) (rows : List (List ℕ)) → ((row : List ℕ) → P row → Q row) → All P rows → All Q rows
+pub all-map : (P Q : List ℕ → Type 0) (rows : List (List ℕ)) → ((row : List ℕ) → P row → Q row) → All P rows → All Q rows
 all-map P Q [] f a = tt
 all-map P Q (row ∷ rows) f a = (f row (a .0), all-map P Q rows f (a .1))
 

@@ -7,3 +7,4 @@ pub mod Together
 pub mod Granted
 pub mod Says
 pub mod Changes
+pub mod Places
