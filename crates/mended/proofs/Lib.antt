@@ -8,3 +8,4 @@ pub mod Granted
 pub mod Says
 pub mod Changes
 pub mod Places
+pub mod Complete
