@@ -3,14 +3,14 @@
 -- Assumes nothing but what a statement says.
 use mathlib.Core.Path.{_≡_, refl, sym, ap, ap₂, _∙_, subst}
 use mathlib.Core.Bool.{Bool, true, false, _&&_}
-use mathlib.Core.List.{List, [], _∷_, _++_, append-assoc}
+use mathlib.Core.List.{List, [], _∷_, _++_, append-assoc, append-nil}
 use Prim.Native.Nat.{ℕ, zero, suc, _+_, _-_, _*_, _/_, _%_, _≤_, _<_}
 use native.Mathlib.Omega.{arith}
 use borrow.Author.Tests.{eqb-true, leb-true, eq-eqb}
-use lib.Dec.{eqb, leb}
+use lib.Dec.{eqb, leb, lit≤}
 use lib.ListN.{length, getD, take, drop, length-append, length-take, length-drop, List·getD-eq-default}
 use lib.Seq.{drop-append-seam, getD-take, getD-drop}
-use Rattle.text.specs.Decimal.{pick, value}
+use Rattle.text.specs.Decimal.{pick, value, render}
 use Rattle.text.specs.Rows.{section}
 use Rattle.text.specs.Same.{sameBytes}
 use Rattle.text.proofs.DecimalLaws.{and-both, same-equal}
@@ -22,15 +22,18 @@ use Rattle.layout.specs.Fields.{noRow, batchControl, fileControl}
 use Rattle.layout.specs.Ways.{recordBytes}
 use Rattle.records.specs.Run.{lengthFits, mostRecords, rawRecords}
 use Rattle.records.proofs.Ways.{rows-whole, rows-few}
+use Rattle.tally.specs.Tally.{start}
 use Rattle.view.specs.Sized.{All}
 use Rattle.bridge.proofs.Lists.{by-lt, all-append}
-use Rattle.mending.specs.Mending.{typeOf, mendedRecords, mendedFile, nineAt, changeRow, changesFrom, changesOf, mendAnswer}
-use Rattle.mended.specs.Listed.{batchRows, fileRows, fillerRows, fieldRows, tableBy, recordAt, fieldsAt, textAt, rowFor, Has, ListedAt, TrueRow, keyOf}
-use Rattle.mended.proofs.Again.{by-test, raw-mended}
+use Rattle.forming.specs.Forms.{batchControlFrom}
+use Rattle.mending.specs.Mending.{typeOf, refilled, endsFile, mendedFrom, mendedRecords, mendedFile, nineAt, changeRow, fieldChanges, changesFrom, fillerChanges, changesOf, mendAnswer}
+use Rattle.mended.specs.Listed.{batchRows, fileRows, fillerRows, fieldRows, tableBy, recordAt, fieldsAt, textAt, rowFor, Has, ListedAt, TrueRow, keyOf, Counted, ListOf}
+use Rattle.mended.proofs.Stays.{fields-same, either-none}
+use Rattle.mended.proofs.Again.{by-test, raw-mended, at-other}
 use Rattle.mended.proofs.Numbers.{record-same}
 use Rattle.mended.proofs.Running.{mended-fits}
 use Rattle.mended.proofs.Granted.{exactly-granted}
-use Rattle.mended.proofs.Changes.{textOf, has-left, has-right, changes-has, all-map, FieldOf, ChangeOf, changes-each}
+use Rattle.mended.proofs.Changes.{textOf, has-left, has-right, changes-has, all-map, FieldOf, ChangeOf, changes-each, ascends-append, ascends-two, changes-ascend, changes-one, changes-few}
 use Rattle.mended.proofs.Places.{InPlace, in-place, nine-in-place, no-nine, before-inside, before-mended, byte-at, byte-in, byte-behind, inTurn, FieldThere, field-there}
 
 -- ---- one record and the one in its place
@@ -78,6 +81,45 @@ whole way n h =
 -- a record that has a type is there
 typed-inside : (rs : List (List ℕ)) (i b : ℕ) → 0 < b → typeOf (getD rs i []) ≡ b → i < length rs
 typed-inside rs i b h e = by-lt i (length rs) (λ l t. l) (λ l t. absurd (omega (arith, h, e, ap typeOf (List·getD-eq-default rs [] l))))
+
+-- ---- how many rows there are
+
+-- where the first of n records stays, and each has its type, they have less than ten million rows
+rows-below : (n : ℕ) (olds news : List (List ℕ)) → ((i : ℕ) → i < n → typeOf (getD news i []) ≡ typeOf (getD olds i [])) → getD news 0 [] ≡ getD olds 0 [] → n ≤ 1000000
+    → length (changesFrom 56 batchControl 1 (take n olds) news) < 10000000
+unfolding changesFrom
+rows-below zero olds news h e l = omega arith
+rows-below (suc n) [] news h e l = omega arith
+rows-below (suc n) (old ∷ olds) [] h e l = omega arith
+rows-below (suc n) (old ∷ olds) (new ∷ news) h e l =
+    let most = length-take n olds in
+    let more = changes-few 2 (take n olds) news (λ i k. h (suc i) (omega arith) ∙ ap typeOf (sym (getD-take n olds i [] (omega arith)))) in
+    let none = either-none (eqb (typeOf old) 56) (fieldChanges 1 1 batchControl old new) (ap (fieldChanges 1 1 batchControl old) e ∙ fields-same 1 1 batchControl old) in
+    let all = ap (λ rows. length (rows ++ changesFrom 56 batchControl 2 (take n olds) news)) none in
+    omega (arith, all, more)
+
+never-both : (t : Bool) → (t && false) ≡ false
+never-both true = refl
+never-both false = refl
+
+no-batch : (t : Bool) (a b : List ℕ) → pick (t && false) a b ≡ b
+no-batch true a b = refl
+no-batch false a b = refl
+
+-- the first record stays: there is no 5 before it, and no 8
+first-stays : (way : Way) (rs : List (List ℕ)) → getD (mendedRecords way rs) 0 [] ≡ getD rs 0 []
+unfolding mendedFrom
+first-stays way [] = refl
+first-stays way (r ∷ rs) =
+    let none : endsFile 0 r ≡ false = never-both (eqb (typeOf r) 57) in
+    ap (λ x. getD x 0 []) (at-other way 0 (start .sums) (start .header) r rs none) ∙ no-batch (eqb (typeOf r) 56) (refilled (batchControlFrom (start .sums) (start .header)) r) r
+
+fillers-few : (old new : ℕ) → length (fillerChanges old new) ≤ 1
+fillers-few old new = go (eqb old new)
+  where
+    go : (t : Bool) → length (pick t [] ((pick (leb old 9) (render 1 old) (43 ∷ []) ++ render 1 new) ∷ [])) ≤ 1
+    go true = omega arith
+    go false = omega arith
 
 module _ (way : Way) (f : List ℕ) where
   abbrev olds : List (List ℕ)
@@ -192,3 +234,109 @@ module _ (way : Way) (f : List ℕ) where
       past-end way p (length (mendedFile way f)) (whole way (length (mendedFile way f)) (mended-fits way f fit))
       (omega (arith, more, length-rows (recordBytes way) (length (mendedFile way f) / recordBytes way) (mendedFile way f))) in
       absurd (differ (List·getD-eq-default f d old ∙ sym (List·getD-eq-default (mendedFile way f) d new)))))
+
+  -- ---- true
+
+  true-row : (n i b : ℕ) (row : List ℕ) → n ≡ i + 1 → i ≤ nine → typeOf (getD olds i []) ≡ b → InPlace (getD olds i []) (getD news i [])
+      → FieldOf n 1 (tableBy b) (getD olds i []) (getD news i []) row → TrueRow way f row
+  true-row n i b row e l t s c =
+      let q = c .field in
+      let old = text-at f i q b t in
+      let new = text-at (mendedFile way f) i q b (s .type ∙ t) in
+      record {
+        number = i + 1;
+        field = 1 + q;
+        numbered = (omega arith, omega arith);
+        known = (omega arith, omega (arith, ap length (fields-at f i b t), c .known));
+        form = c .form ∙ row-for n i q b e t s;
+        differs = λ same. c .differs (sym old ∙ same ∙ new);
+      }
+
+  true-batch : (row : List ℕ) → ChangeOf 56 batchControl 1 (take nine olds) news row → TrueRow way f row
+  true-batch row c =
+      let i = c .at in
+      let l : i < nine = omega (arith, c .inside, length-take nine olds) in
+      let same = getD-take nine olds i [] l in
+      let t = eqb-true (typeOf (getD (take nine olds) i [])) 56 (c .typed) in
+      true-row (1 + i) i 56 row (omega arith) (omega arith) (ap typeOf (sym same) ∙ t) (in-place way f i l)
+      (subst (λ old. FieldOf (1 + i) 1 batchControl old (getD news i []) row) same (c .change))
+
+  true-file : (row : List ℕ) → ChangeOf 57 fileControl (nine + 1) (take 1 (drop nine olds)) (drop nine news) row → TrueRow way f row
+  true-file row c =
+      let i = c .at in
+      let first : i < 1 = omega (arith, c .inside, length-take 1 (drop nine olds)) in
+      let l : nine < length olds = omega (arith, c .inside, length-take 1 (drop nine olds), length-drop nine olds) in
+      let there : nine + i ≡ nine = omega arith in
+      let old = getD-take 1 (drop nine olds) i [] first ∙ getD-drop nine olds i [] ∙ ap (λ j. getD olds j []) there in
+      let new = getD-drop nine news i [] ∙ ap (λ j. getD news j []) there in
+      let n = nine-in-place way f l in
+      true-row (nine + 1 + i) nine 57 row (omega arith) (omega arith) (n .nine) (n .place)
+      (subst (λ x. FieldOf (nine + 1 + i) 1 fileControl (getD olds nine []) x row) new
+      (subst (λ x. FieldOf (nine + 1 + i) 1 fileControl x (getD (drop nine news) i []) row) old (c .change)))
+
+  -- each row is of a field of an 8 before the 9 or of the 9, with its two texts, which differ
+  pub listed-differs : All (TrueRow way f) (fieldRows way f)
+  listed-differs =
+      let batches = changesFrom 56 batchControl 1 (take nine olds) news in
+      let file = changesFrom 57 fileControl (nine + 1) (take 1 (drop nine olds)) (drop nine news) in
+      all-append (TrueRow way f) (batchRows way f) (fileRows way f)
+      (subst (All (TrueRow way f)) (sym batch-rows)
+      (all-map (ChangeOf 56 batchControl 1 (take nine olds) news) (TrueRow way f) batches true-batch (changes-each 56 batchControl 1 (take nine olds) news)))
+      (subst (All (TrueRow way f)) (sym file-rows)
+      (all-map (ChangeOf 57 fileControl (nine + 1) (take 1 (drop nine olds)) (drop nine news)) (TrueRow way f) file true-file
+      (changes-each 57 fileControl (nine + 1) (take 1 (drop nine olds)) (drop nine news))))
+
+  -- ---- once
+
+  few-records : lengthFits way (length f) ≡ true → nine ≤ 1000000
+  few-records fit =
+      let w = recordBytes way in
+      let one = and-both (leb 1 (length f) && eqb (length f % w) 0) (leb (length f) (w * mostRecords)) fit in
+      omega (arith, before-inside 0 olds, length-rows w (length f / w) f, rows-few way (length f) (leb-true (length f) (w * mostRecords) (one .1)))
+
+  -- the rows ascend by record number and field, so that no field has two
+  pub listed-once : lengthFits way (length f) ≡ true → (i j : ℕ) → i < j → j < length (fieldRows way f) → keyOf (getD (fieldRows way f) i []) < keyOf (getD (fieldRows way f) j [])
+  listed-once fit i j h g =
+      let few = few-records fit in
+      let first = length-take nine olds in
+      let one = length-take 1 (drop nine olds) in
+      let rs = mendedRecords way olds in
+      ascends-two (1 * 100) ((nine + 2) * 100) (fieldRows way f) i j
+      (ascends-append (1 * 100) ((nine + 1) * 100) ((nine + 2) * 100) (batchRows way f) (fileRows way f)
+      (changes-ascend 56 batchControl 1 (take nine olds) rs ((nine + 1) * 100) (lit≤ tt) (omega arith) (omega arith))
+      (changes-ascend 57 fileControl (nine + 1) (take 1 (drop nine olds)) (drop nine rs) ((nine + 2) * 100) (lit≤ tt) (omega arith) (omega arith)))
+      h g
+
+  -- ---- counts
+
+  batches-few : lengthFits way (length f) ≡ true → length (batchRows way f) < 10000000
+  batches-few fit =
+      subst (λ rows. length rows < 10000000) (sym batch-rows)
+      (rows-below nine olds news (λ i l. in-place way f i l .type) (ap (λ rs. getD rs 0 []) (raw-mended way f) ∙ first-stays way olds) (few-records fit))
+
+  -- the three counts of seven digits are the numbers of the rows behind them
+  pub counts-own : lengthFits way (length f) ≡ true → Counted (changesOf way f) (batchRows way f) (fileRows way f) (fillerRows way f)
+  counts-own fit =
+      let batches = section 7 (batchRows way f) in
+      let file = section 7 (fileRows way f) in
+      let filler = section 7 (fillerRows way f) in
+      let rs = mendedRecords way olds in
+      let file-few = changes-one 57 fileControl (nine + 1) (drop nine olds) (drop nine rs) in
+      let filler-few = fillers-few (length (drop (nine + 1) olds)) (length (drop (nine + 1) rs)) in
+      record {
+        whole = refl;
+        first = section-count 7 (batchRows way f) (file ++ filler) (batches-few fit);
+        second = ap (λ x. value (take 7 x)) (drop-append-seam batches (file ++ filler)) ∙ section-count 7 (fileRows way f) filler (omega arith);
+        third =
+            ap (λ x. value (take 7 (drop (length (batches ++ file)) x))) (sym (append-assoc batches file filler))
+            ∙ ap (λ x. value (take 7 x)) (drop-append-seam (batches ++ file) filler ∙ sym (append-nil filler))
+            ∙ section-count 7 (fillerRows way f) [] (omega arith);
+      }
+
+  -- ---- a grant
+
+  -- so much is true of the list of a granted mending
+  pub granted-list : (n m : ℕ) → mendAnswer way f n m ≡ Answer.Granted → ListOf way f
+  granted-list n m e =
+      let fit = exactly-granted way f n m .0 e .whole in
+      record { complete = differs-listed fit; true-rows = listed-differs; once = listed-once fit; counted = counts-own fit }

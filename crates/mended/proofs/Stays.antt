@@ -160,14 +160,14 @@ module _ (way : Way) where
 -- ---- the changes
 
 -- a record has no change to itself
-fields-same : (n k : ℕ) (table : List Row) (r : List ℕ) → fieldChanges n k table r r ≡ []
+pub fields-same : (n k : ℕ) (table : List Row) (r : List ℕ) → fieldChanges n k table r r ≡ []
 unfolding fieldChanges
 fields-same n k [] r = refl
 fields-same n k (row ∷ table) r =
     let text = columns (row .first) (row .last) r in
     rw (same-equal text text .1 refl) (fields-same n (k + 1) table r)
 
-either-none : (t : Bool) (rows : List (List ℕ)) → rows ≡ [] → pick t rows [] ≡ []
+pub either-none : (t : Bool) (rows : List (List ℕ)) → rows ≡ [] → pick t rows [] ≡ []
 either-none true rows e = e
 either-none false rows e = refl
 

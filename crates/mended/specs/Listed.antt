@@ -5,12 +5,14 @@ use mathlib.Core.List.{List, [], _∷_, _++_}
 use lib.Dec.{eqb}
 use lib.ListN.{length, getD, take, drop}
 use Rattle.text.specs.Decimal.{pick, value}
+use Rattle.text.specs.Rows.{section}
 use Rattle.layout.specs.declared.Row.{Row}
 use Rattle.layout.specs.declared.Way.{Way}
 use Rattle.layout.specs.Fields.{noRow, part, batchControl, fileControl}
 use Rattle.layout.specs.Ways.{recordBytes}
 use Rattle.records.specs.Run.{rawRecords}
-use Rattle.mending.specs.Mending.{typeOf, mendedRecords, mendedFile, nineAt, changeRow, changesFrom, fillerChanges}
+use Rattle.view.specs.Sized.{All}
+use Rattle.mending.specs.Mending.{typeOf, mendedRecords, mendedFile, nineAt, changeRow, changesFrom, fillerChanges, changesOf}
 
 -- the rows of the list's three sections: those of the 8s before the 9, those of the 9, and the one of the fillers
 abbrev pub batchRows : Way → List ℕ → List (List ℕ)
@@ -75,3 +77,18 @@ pub record TrueRow (way : Way) (f row : List ℕ) : Type 0 where
 -- what a row's first nine digits write: the record's number, then the field's
 abbrev pub keyOf : List ℕ → ℕ
 keyOf row = value (take 9 row)
+
+-- a list is these rows in three sections, and each count of seven digits is the number of its section's rows
+pub record Counted (list : List ℕ) (batches file filler : List (List ℕ)) : Type 0 where
+  pub whole : list ≡ section 7 batches ++ (section 7 file ++ section 7 filler)
+  pub first : value (take 7 list) ≡ length batches
+  pub second : value (take 7 (drop (length (section 7 batches)) list)) ≡ length file
+  pub third : value (take 7 (drop (length (section 7 batches ++ section 7 file)) list)) ≡ length filler
+
+-- the list is complete and true: a byte that differs is in a listed field or behind the 9 (past the end of a file stands d, whatever that is); a
+-- listed field differs; no field is listed twice; and the counts are its own
+pub record ListOf (way : Way) (f : List ℕ) : Type 0 where
+  pub complete : (p d : ℕ) → p < recordBytes way * (nineAt (rawRecords way f) + 1) → (getD f p d ≡ getD (mendedFile way f) p d → ⊥) → ListedAt way f p
+  pub true-rows : All (TrueRow way f) (fieldRows way f)
+  pub once : (i j : ℕ) → i < j → j < length (fieldRows way f) → keyOf (getD (fieldRows way f) i []) < keyOf (getD (fieldRows way f) j [])
+  pub counted : Counted (changesOf way f) (batchRows way f) (fileRows way f) (fillerRows way f)
