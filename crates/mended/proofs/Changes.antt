@@ -11,7 +11,7 @@ use borrow.Author.Tests.{eqb-true}
 use lib.Dec.{eqb}
 use lib.ListN.{length, getD, take, drop, List·getD-append, length-append}
 use lib.Seq.{take-at, getD-append-add}
-use Rattle.text.specs.Decimal.{pick, valueFrom, value, render}
+use Rattle.text.specs.Decimal.{pick, value, render}
 use Rattle.text.specs.Rows.{columns}
 use Rattle.text.specs.Same.{sameBytes}
 use Rattle.text.proofs.DecimalLaws.{same-equal, value-append, value-from, length-render, value-render-lt}
@@ -22,7 +22,6 @@ use Rattle.bridge.proofs.BridgeFields.{never}
 use Rattle.bridge.proofs.Lists.{all-append}
 use Rattle.mending.specs.Mending.{typeOf, changeRow, fieldChanges, changesFrom}
 use Rattle.mended.specs.Listed.{Has, keyOf}
-use Rattle.mended.proofs.Again.{by-test}
 
 -- field q, from 0, of a record
 abbrev pub textOf : List Row → ℕ → List ℕ → List ℕ
@@ -182,7 +181,8 @@ module _ (type : ℕ) (table : List Row) where
 
 -- ---- no two are of one field
 
-key-row : (n k : ℕ) (old new : List ℕ) → n < 10000000 → k < 100 → keyOf (changeRow n k old new) ≡ n * 100 + k
+-- the key of a row
+pub key-row : (n k : ℕ) (old new : List ℕ) → n < 10000000 → k < 100 → keyOf (changeRow n k old new) ≡ n * 100 + k
 key-row n k old new h g =
     let number = render 7 n in
     let field = render 2 k in

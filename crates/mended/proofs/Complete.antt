@@ -8,7 +8,7 @@ use Prim.Native.Nat.{ℕ, zero, suc, _+_, _-_, _*_, _/_, _%_, _≤_, _<_}
 use native.Mathlib.Omega.{arith}
 use borrow.Author.Tests.{eqb-true, leb-true, eq-eqb}
 use lib.Dec.{eqb, leb, lit≤}
-use lib.ListN.{length, getD, take, drop, length-append, length-take, length-drop, List·getD-eq-default}
+use lib.ListN.{length, getD, take, drop, length-take, length-drop, List·getD-eq-default}
 use lib.Seq.{drop-append-seam, getD-take, getD-drop}
 use Rattle.text.specs.Decimal.{pick, value, render}
 use Rattle.text.specs.Rows.{section}
@@ -21,19 +21,19 @@ use Rattle.layout.specs.declared.Way.{Way}
 use Rattle.layout.specs.Fields.{noRow, batchControl, fileControl}
 use Rattle.layout.specs.Ways.{recordBytes}
 use Rattle.records.specs.Run.{lengthFits, mostRecords, rawRecords}
-use Rattle.records.proofs.Ways.{rows-whole, rows-few}
+use Rattle.records.proofs.Ways.{rows-few}
 use Rattle.tally.specs.Tally.{start}
 use Rattle.view.specs.Sized.{All}
 use Rattle.bridge.proofs.Lists.{by-lt, all-append}
 use Rattle.forming.specs.Forms.{batchControlFrom}
 use Rattle.mending.specs.Mending.{typeOf, refilled, endsFile, mendedFrom, mendedRecords, mendedFile, nineAt, changeRow, fieldChanges, changesFrom, fillerChanges, changesOf, mendAnswer}
-use Rattle.mended.specs.Listed.{batchRows, fileRows, fillerRows, fieldRows, tableBy, recordAt, fieldsAt, textAt, rowFor, Has, ListedAt, TrueRow, keyOf, Counted, ListOf}
+use Rattle.mended.specs.Listed.{batchRows, fileRows, fillerRows, fieldRows, tableBy, fieldsAt, textAt, rowFor, Has, ListedAt, TrueRow, keyOf, Counted, ListOf}
 use Rattle.mended.proofs.Stays.{fields-same, either-none}
 use Rattle.mended.proofs.Again.{by-test, raw-mended, at-other}
 use Rattle.mended.proofs.Numbers.{record-same}
 use Rattle.mended.proofs.Running.{mended-fits}
 use Rattle.mended.proofs.Granted.{exactly-granted}
-use Rattle.mended.proofs.Changes.{textOf, has-left, has-right, changes-has, all-map, FieldOf, ChangeOf, changes-each, ascends-append, ascends-two, changes-ascend, changes-one, changes-few}
+use Rattle.mended.proofs.Changes.{textOf, has-left, has-right, changes-has, all-map, FieldOf, ChangeOf, changes-each, key-row, ascends-append, ascends-two, changes-ascend, changes-one, changes-few}
 use Rattle.mended.proofs.Places.{InPlace, in-place, nine-in-place, no-nine, before-inside, before-mended, byte-at, byte-in, byte-behind, inTurn, FieldThere, field-there}
 
 -- ---- one record and the one in its place
@@ -83,6 +83,15 @@ typed-inside : (rs : List (List ℕ)) (i b : ℕ) → 0 < b → typeOf (getD rs 
 typed-inside rs i b h e = by-lt i (length rs) (λ l t. l) (λ l t. absurd (omega (arith, h, e, ap typeOf (List·getD-eq-default rs [] l))))
 
 -- ---- how many rows there are
+
+-- a control has at most eleven fields
+table-few : (b : ℕ) → length (tableBy b) ≤ 11
+table-few b = go (eqb b 56) (eqb b 57)
+  where
+    go : (t u : Bool) → length (pick t batchControl (pick u fileControl [])) ≤ 11
+    go true u = omega arith
+    go false true = omega arith
+    go false false = omega arith
 
 -- where the first of n records stays, and each has its type, they have less than ten million rows
 rows-below : (n : ℕ) (olds news : List (List ℕ)) → ((i : ℕ) → i < n → typeOf (getD news i []) ≡ typeOf (getD olds i [])) → getD news 0 [] ≡ getD olds 0 [] → n ≤ 1000000
@@ -237,32 +246,40 @@ module _ (way : Way) (f : List ℕ) where
 
   -- ---- true
 
+  few-records : lengthFits way (length f) ≡ true → nine ≤ 1000000
+  few-records fit =
+      let w = recordBytes way in
+      let one = and-both (leb 1 (length f) && eqb (length f % w) 0) (leb (length f) (w * mostRecords)) fit in
+      omega (arith, before-inside 0 olds, length-rows w (length f / w) f, rows-few way (length f) (leb-true (length f) (w * mostRecords) (one .1)))
+
   true-row : (n i b : ℕ) (row : List ℕ) → n ≡ i + 1 → i ≤ nine → typeOf (getD olds i []) ≡ b → InPlace (getD olds i []) (getD news i [])
-      → FieldOf n 1 (tableBy b) (getD olds i []) (getD news i []) row → TrueRow way f row
-  true-row n i b row e l t s c =
+      → FieldOf n 1 (tableBy b) (getD olds i []) (getD news i []) row → lengthFits way (length f) ≡ true → TrueRow way f row
+  true-row n i b row e l t s c fit =
       let q = c .field in
       let old = text-at f i q b t in
       let new = text-at (mendedFile way f) i q b (s .type ∙ t) in
+      let form = c .form ∙ row-for n i q b e t s in
       record {
         number = i + 1;
         field = 1 + q;
         numbered = (omega arith, omega arith);
         known = (omega arith, omega (arith, ap length (fields-at f i b t), c .known));
-        form = c .form ∙ row-for n i q b e t s;
+        form = form;
+        key = ap keyOf form ∙ key-row (i + 1) (1 + q) (textAt way f (i + 1) (1 + q)) (textAt way (mendedFile way f) (i + 1) (1 + q)) (omega (arith, few-records fit)) (omega (arith, c .known, table-few b));
         differs = λ same. c .differs (sym old ∙ same ∙ new);
       }
 
-  true-batch : (row : List ℕ) → ChangeOf 56 batchControl 1 (take nine olds) news row → TrueRow way f row
-  true-batch row c =
+  true-batch : lengthFits way (length f) ≡ true → (row : List ℕ) → ChangeOf 56 batchControl 1 (take nine olds) news row → TrueRow way f row
+  true-batch fit row c =
       let i = c .at in
       let l : i < nine = omega (arith, c .inside, length-take nine olds) in
       let same = getD-take nine olds i [] l in
       let t = eqb-true (typeOf (getD (take nine olds) i [])) 56 (c .typed) in
       true-row (1 + i) i 56 row (omega arith) (omega arith) (ap typeOf (sym same) ∙ t) (in-place way f i l)
-      (subst (λ old. FieldOf (1 + i) 1 batchControl old (getD news i []) row) same (c .change))
+      (subst (λ old. FieldOf (1 + i) 1 batchControl old (getD news i []) row) same (c .change)) fit
 
-  true-file : (row : List ℕ) → ChangeOf 57 fileControl (nine + 1) (take 1 (drop nine olds)) (drop nine news) row → TrueRow way f row
-  true-file row c =
+  true-file : lengthFits way (length f) ≡ true → (row : List ℕ) → ChangeOf 57 fileControl (nine + 1) (take 1 (drop nine olds)) (drop nine news) row → TrueRow way f row
+  true-file fit row c =
       let i = c .at in
       let first : i < 1 = omega (arith, c .inside, length-take 1 (drop nine olds)) in
       let l : nine < length olds = omega (arith, c .inside, length-take 1 (drop nine olds), length-drop nine olds) in
@@ -272,27 +289,21 @@ module _ (way : Way) (f : List ℕ) where
       let n = nine-in-place way f l in
       true-row (nine + 1 + i) nine 57 row (omega arith) (omega arith) (n .nine) (n .place)
       (subst (λ x. FieldOf (nine + 1 + i) 1 fileControl (getD olds nine []) x row) new
-      (subst (λ x. FieldOf (nine + 1 + i) 1 fileControl x (getD (drop nine news) i []) row) old (c .change)))
+      (subst (λ x. FieldOf (nine + 1 + i) 1 fileControl x (getD (drop nine news) i []) row) old (c .change))) fit
 
   -- each row is of a field of an 8 before the 9 or of the 9, with its two texts, which differ
-  pub listed-differs : All (TrueRow way f) (fieldRows way f)
-  listed-differs =
+  pub listed-differs : lengthFits way (length f) ≡ true → All (TrueRow way f) (fieldRows way f)
+  listed-differs fit =
       let batches = changesFrom 56 batchControl 1 (take nine olds) news in
       let file = changesFrom 57 fileControl (nine + 1) (take 1 (drop nine olds)) (drop nine news) in
       all-append (TrueRow way f) (batchRows way f) (fileRows way f)
       (subst (All (TrueRow way f)) (sym batch-rows)
-      (all-map (ChangeOf 56 batchControl 1 (take nine olds) news) (TrueRow way f) batches true-batch (changes-each 56 batchControl 1 (take nine olds) news)))
+      (all-map (ChangeOf 56 batchControl 1 (take nine olds) news) (TrueRow way f) batches (true-batch fit) (changes-each 56 batchControl 1 (take nine olds) news)))
       (subst (All (TrueRow way f)) (sym file-rows)
-      (all-map (ChangeOf 57 fileControl (nine + 1) (take 1 (drop nine olds)) (drop nine news)) (TrueRow way f) file true-file
+      (all-map (ChangeOf 57 fileControl (nine + 1) (take 1 (drop nine olds)) (drop nine news)) (TrueRow way f) file (true-file fit)
       (changes-each 57 fileControl (nine + 1) (take 1 (drop nine olds)) (drop nine news))))
 
   -- ---- once
-
-  few-records : lengthFits way (length f) ≡ true → nine ≤ 1000000
-  few-records fit =
-      let w = recordBytes way in
-      let one = and-both (leb 1 (length f) && eqb (length f % w) 0) (leb (length f) (w * mostRecords)) fit in
-      omega (arith, before-inside 0 olds, length-rows w (length f / w) f, rows-few way (length f) (leb-true (length f) (w * mostRecords) (one .1)))
 
   -- the rows ascend by record number and field, so that no field has two
   pub listed-once : lengthFits way (length f) ≡ true → (i j : ℕ) → i < j → j < length (fieldRows way f) → keyOf (getD (fieldRows way f) i []) < keyOf (getD (fieldRows way f) j [])
@@ -339,4 +350,4 @@ module _ (way : Way) (f : List ℕ) where
   pub granted-list : (n m : ℕ) → mendAnswer way f n m ≡ Answer.Granted → ListOf way f
   granted-list n m e =
       let fit = exactly-granted way f n m .0 e .whole in
-      record { complete = differs-listed fit; true-rows = listed-differs; once = listed-once fit; counted = counts-own fit }
+      record { complete = differs-listed fit; true-rows = listed-differs fit; once = listed-once fit; counted = counts-own fit }

@@ -9,10 +9,10 @@ use native.Mathlib.Nat.{div-add-mod, mod-lt}
 use native.Mathlib.Omega.{arith}
 use borrow.Author.Tests.{eqb-true}
 use lib.Dec.{eqb, ltb}
-use lib.ListN.{length, getD, take, drop, replicate, List·getD-eq-default}
+use lib.ListN.{length, getD, take, drop}
 use lib.Seq.{drop-at, getD-take, getD-drop}
 use Rattle.text.specs.Decimal.{pick}
-use Rattle.text.specs.Rows.{rows, columns}
+use Rattle.text.specs.Rows.{columns}
 use Rattle.text.specs.Widths.{AllLong}
 use Rattle.text.proofs.DecimalLaws.{and-both}
 use Rattle.text.proofs.RowLaws.{length-rows, getD-rows}
@@ -24,10 +24,9 @@ use Rattle.near.specs.declared.Sums.{Sums}
 use Rattle.tally.specs.Tally.{start}
 use Rattle.records.specs.Run.{rawRecords}
 use Rattle.records.proofs.Ways.{some-bytes}
-use Rattle.view.specs.View.{fillersAfter, fillerRecord, closedBy}
 use Rattle.bridge.proofs.Lists.{by-lt}
 use Rattle.forming.specs.Forms.{batchControlFrom, fileControlFrom}
-use Rattle.mending.specs.Mending.{typeOf, lineBy, sumsPast, headerPast, refilled, mendedRecord, endsFile, mendedEnd, mendedFrom, mendedFile, beforeNine, nineAt}
+use Rattle.mending.specs.Mending.{typeOf, lineBy, sumsPast, headerPast, refilled, endsFile, mendedFrom, mendedFile, beforeNine, nineAt}
 use Rattle.mended.proofs.Again.{by-test, batch-long, file-long, file-type, header-long, columns-long, raw-long, raw-mended, mended-type, at-nine, at-other}
 use Rattle.mended.proofs.Numbers.{nine-here, nine-later, nine-stays}
 

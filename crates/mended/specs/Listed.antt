@@ -1,7 +1,7 @@
 -- The list of a mending, row by row: which field of which record a row is of, and what that field says in either file.
 use Prim.Native.Nat.{ℕ, _+_, _-_, _*_, _/_, _%_, _≤_, _<_}
 use mathlib.Core.Path.{_≡_}
-use mathlib.Core.List.{List, [], _∷_, _++_}
+use mathlib.Core.List.{List, [], _++_}
 use lib.Dec.{eqb}
 use lib.ListN.{length, getD, take, drop}
 use Rattle.text.specs.Decimal.{pick, value}
@@ -65,18 +65,19 @@ pub record ListedAt (way : Way) (f : List ℕ) (p : ℕ) : Type 0 where
   pub to : p % recordBytes way + 1 ≤ getD (fieldsAt way f (p / recordBytes way + 1)) (field - 1) noRow .last
   pub listed : Has (fieldRows way f) (rowFor way f (p / recordBytes way + 1) field)
 
--- a row is the one of a field that is not the same in the two files
+-- what a row's first nine digits write: the record's number, then the field's
+abbrev pub keyOf : List ℕ → ℕ
+keyOf row = value (take 9 row)
+
+-- a row is the one of a field that is not the same in the two files, and its digits say of which
 pub record TrueRow (way : Way) (f row : List ℕ) : Type 0 where
   pub number : ℕ
   pub field : ℕ
   pub numbered : (1 ≤ number) × (number ≤ nineAt (rawRecords way f) + 1)
   pub known : (1 ≤ field) × (field ≤ length (fieldsAt way f number))
   pub form : row ≡ rowFor way f number field
+  pub key : keyOf row ≡ number * 100 + field
   pub differs : textAt way f number field ≡ textAt way (mendedFile way f) number field → ⊥
-
--- what a row's first nine digits write: the record's number, then the field's
-abbrev pub keyOf : List ℕ → ℕ
-keyOf row = value (take 9 row)
 
 -- a list is these rows in three sections, and each count of seven digits is the number of its section's rows
 pub record Counted (list : List ℕ) (batches file filler : List (List ℕ)) : Type 0 where
