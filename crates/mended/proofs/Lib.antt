@@ -9,3 +9,4 @@ pub mod Says
 pub mod Changes
 pub mod Places
 pub mod Complete
+pub mod Fillers

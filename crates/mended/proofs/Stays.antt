@@ -45,7 +45,7 @@ module _ (way : Way) where
       (pick (eqb b 56 && ltb 0 (s .batches)) (refilled (batchControlFrom s h) r) r
       ∷ mendedFrom way b (nextSums s (lineBy b) text) (nextHeader h (lineBy b) text) rs)
 
-  closed-type : (r : List ℕ) → length r ≡ 94 → typeOf (closedBy way r) ≡ typeOf r
+  pub closed-type : (r : List ℕ) → length r ≡ 94 → typeOf (closedBy way r) ≡ typeOf r
   closed-type [] l = absurd (omega arith)
   closed-type (x ∷ xs) l = refl
 
@@ -140,7 +140,7 @@ module _ (way : Way) where
       (first-stays 49 (addRecord noSums) (start .header) (v .batches) end n (l .each) (end-stays v))
 
   -- the records of an accepted file
-  raw-accepted : (f : List ℕ) → checkedOf way f .answer ≡ Answer.Granted → rawRecords way f ≡ map (closedBy way) (recordsOf (viewOf way f))
+  pub raw-accepted : (f : List ℕ) → checkedOf way f .answer ≡ Answer.Granted → rawRecords way f ≡ map (closedBy way) (recordsOf (viewOf way f))
   raw-accepted f e =
       let p = accepted-view way f e in
       let v = viewOf way f in
