@@ -111,17 +111,14 @@ never-both : (t : Bool) → (t && false) ≡ false
 never-both true = refl
 never-both false = refl
 
-no-batch : (t : Bool) (a b : List ℕ) → pick (t && false) a b ≡ b
-no-batch true a b = refl
-no-batch false a b = refl
-
 -- the first record stays: there is no 5 before it, and no 8
 first-stays : (way : Way) (rs : List (List ℕ)) → getD (mendedRecords way rs) 0 [] ≡ getD rs 0 []
 unfolding mendedFrom
 first-stays way [] = refl
 first-stays way (r ∷ rs) =
     let none : endsFile 0 r ≡ false = never-both (eqb (typeOf r) 57) in
-    ap (λ x. getD x 0 []) (at-other way 0 (start .sums) (start .header) r rs none) ∙ no-batch (eqb (typeOf r) 56) (refilled (batchControlFrom (start .sums) (start .header)) r) r
+    ap (λ x. getD x 0 []) (at-other way 0 (start .sums) (start .header) r rs none)
+    ∙ ap (λ t. pick t (refilled (batchControlFrom (start .sums) (start .header)) r) r) (never-both (eqb (typeOf r) 56))
 
 fillers-few : (old new : ℕ) → length (fillerChanges old new) ≤ 1
 fillers-few old new = go (eqb old new)
@@ -320,7 +317,8 @@ module _ (way : Way) (f : List ℕ) where
 
   -- ---- counts
 
-  batches-few : lengthFits way (length f) ≡ true → length (batchRows way f) < 10000000
+  -- at most ten rows for each record but the first, so that seven digits hold their number
+  pub batches-few : lengthFits way (length f) ≡ true → length (batchRows way f) < 10000000
   batches-few fit =
       subst (λ rows. length rows < 10000000) (sym batch-rows)
       (rows-below nine olds news (λ i l. in-place way f i l .type) (ap (λ rs. getD rs 0 []) (raw-mended way f) ∙ first-stays way olds) (few-records fit))
