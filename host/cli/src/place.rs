@@ -29,8 +29,16 @@ pub struct Place {
 enum Goal {
     StandardOutput,
     /// Nothing is there.
-    Free { path: PathBuf, mode: u32, force: bool },
-    Taken { old: Locked, mode: Option<u32>, in_place: bool },
+    Free {
+        path: PathBuf,
+        mode: u32,
+        force: bool,
+    },
+    Taken {
+        old: Locked,
+        mode: Option<u32>,
+        in_place: bool,
+    },
 }
 
 impl Place {
@@ -76,9 +84,7 @@ impl Goal {
         match Locked::at(&real)? {
             Some(old) => Ok(Goal::Taken { old, mode, in_place }),
             None if in_place => failed(format!("{}: No such file or directory", shown(path))),
-            None => {
-                Ok(Goal::Free { path: real, mode: mode.unwrap_or(OWNER_ALONE), force: true })
-            }
+            None => Ok(Goal::Free { path: real, mode: mode.unwrap_or(OWNER_ALONE), force: true }),
         }
     }
 

@@ -32,9 +32,8 @@ impl Temporary {
     /// For systems that have no files without a name: while it has one, signals wait.
     fn named(place: &Path) -> io::Result<Self> {
         system::hold_signals();
-        let create = |path: &Path| {
-            OpenOptions::new().write(true).create_new(true).mode(0o600).open(path)
-        };
+        let create =
+            |path: &Path| OpenOptions::new().write(true).create_new(true).mode(0o600).open(path);
         let (name, file) = under_free_name(place, create)?;
         Ok(Temporary { file, place: place.into(), name: Some(name) })
     }
@@ -114,8 +113,11 @@ pub fn folder_of(path: &Path) -> &Path {
 /// The temporary files beside a place that a run has left which was killed.
 pub fn leftovers(place: &Path) -> Vec<PathBuf> {
     let entries = fs::read_dir(folder_of(place)).into_iter().flatten().flatten();
-    let mut left: Vec<PathBuf> =
-        entries.filter(is_temporary).map(|entry| entry.path()).filter(|path| is_left(path)).collect();
+    let mut left: Vec<PathBuf> = entries
+        .filter(is_temporary)
+        .map(|entry| entry.path())
+        .filter(|path| is_left(path))
+        .collect();
     left.sort();
     left
 }
