@@ -59,12 +59,18 @@ impl Place {
     /// the result was made of. Only what cannot be put is trouble: words that nobody hears do not
     /// undo what was done.
     pub fn put(self, bytes: &[u8], read: Option<Stamp>, words: &str) -> Result<(), Trouble> {
-        if let Goal::StandardOutput = self.goal {
-            watched("writing", &self.name, || stdout::write(bytes))?;
-            let _ = io::stderr().lock().write_all(words.as_bytes());
-            return Ok(());
+        match self.goal {
+            Goal::StandardOutput => {
+                watched("writing", &self.name, || stdout::write(bytes))?;
+                let _ = io::stderr().lock().write_all(words.as_bytes());
+                return Ok(());
+            }
+            Goal::Free { path, mode, force } => put_new(&path, mode, force, bytes)?,
+            Goal::Taken { old, mode, in_place } => {
+                let same = || still_the_same(&old, read, in_place);
+                replace(&old, mode, bytes, same)?;
+            }
         }
-        self.goal.put_file(bytes, read)?;
         if let Err(trouble) = stdout::write(words.as_bytes()) {
             warn(&format!("{} is written all the same; {trouble}", self.name));
         }
@@ -102,23 +108,21 @@ impl Goal {
             Goal::Taken { old, .. } => Some(&old.path),
         }
     }
+}
 
-    fn put_file(self, bytes: &[u8], read: Option<Stamp>) -> Result<(), Trouble> {
-        match self {
-            Goal::StandardOutput => stdout::write(bytes),
-            Goal::Free { path, mode, force } => put_new(&path, mode, force, bytes),
-            Goal::Taken { old, mode, in_place } => {
-                let metadata = old.metadata()?;
-                let permissions = |file: &File| like(&metadata, file, mode);
-                let mut new = filled(&old.path, permissions, bytes)?;
-                still_the_same(&old, read, in_place)?;
-                new.put_over().map_err(with_path(&old.path))?;
-                tell_of_changes(&old.path, &metadata, &new.file);
-                sync_folder(&old.path);
-                Ok(())
-            }
-        }
-    }
+fn replace(
+    old: &Locked,
+    mode: Option<u32>,
+    bytes: &[u8],
+    look_again: impl FnOnce() -> Result<(), Trouble>,
+) -> Result<(), Trouble> {
+    let metadata = old.metadata()?;
+    let mut new = filled(&old.path, |file| like(&metadata, file, mode), bytes)?;
+    look_again()?;
+    new.put_over().map_err(with_path(&old.path))?;
+    tell_of_changes(&old.path, &metadata, &new.file);
+    sync_folder(&old.path);
+    Ok(())
 }
 
 fn put_new(path: &Path, mode: u32, force: bool, bytes: &[u8]) -> Result<(), Trouble> {
@@ -210,9 +214,12 @@ fn tell_of_leftovers(place: &Path) {
     warn(&format!("{}{more}: {words}", shown(first)));
 }
 
-/// The file that a name stands for, link by link, whether it is there or not: a link stays a link.
+/// The file that a name stands for, whether it is there or not: a link stays a link.
 fn followed(path: &Path) -> Result<PathBuf, Trouble> {
     let mut at = path.to_path_buf();
+    if path.exists() {
+        return Ok(fs::canonicalize(path).unwrap_or(at));
+    }
     for _ in 0..MOST_LINKS {
         match fs::read_link(&at) {
             Ok(next) => at = folder_of(&at).join(next),

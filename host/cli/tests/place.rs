@@ -98,10 +98,39 @@ fn a_lock_is_waited_for() {
         .map(|line| started(line, &file));
     std::thread::sleep(Duration::from_millis(200));
     assert_eq!(fs::read(&file).unwrap(), WHOLE);
-    fs::rename(folder.with("new", &GAPS), &file).unwrap();
+    fs::rename(folder.with("new", GAPS), &file).unwrap();
     drop(lock);
     assert_eq!(children.map(status), [0, 1]);
     ach!("check", "--line", file).is(0, "OK 2 6 0 0 758685\n", "");
+}
+
+/// What others do who ask for no lock, while the result is being written: theirs stays.
+#[test]
+fn a_file_that_changes_meanwhile() {
+    let (folder, slow) = (Folder::new(), Slow::new("fsync"));
+    let file = folder.path("pay.ach");
+    let other = || folder.with("other", GAPS);
+    let write = || fs::write(&file, WHOLE).unwrap();
+    let rename = || fs::rename(other(), &file).unwrap();
+    let remove = || fs::remove_file(&file).unwrap();
+    for line in ["alter FILE 1 1.00 --in-place", "alter FILE 1 1.00 -o FILE --force"] {
+        for (number, meddle) in [&write as &dyn Fn(), &rename, &remove].into_iter().enumerate() {
+            write();
+            let mut after = None;
+            let output = slow.during(&words(line, &file), |_| {
+                meddle();
+                after = Some(fs::read(&file).ok());
+            });
+            Run::of(output).fails_with("pay.ach: the file changed since it was read");
+            assert_eq!(after, Some(fs::read(&file).ok()), "{line}, {number}");
+        }
+    }
+    let line = "write FILE -o NEW --force".replace("NEW", file.to_str().unwrap());
+    let table = folder.with("table", WHOLE_TABLE);
+    let output = slow.during(&words(&line, &table), |_| rename());
+    Run::of(output).fails_with("pay.ach: a file has appeared there meanwhile");
+    assert_eq!(fs::read(&file).unwrap(), GAPS);
+    assert_eq!(folder.names(), ["pay.ach", "table"]);
 }
 
 #[test]
@@ -242,7 +271,7 @@ fn a_signal_before_the_end() {
         let new = format!("alter FILE 1 1.00 -o {}", folder.path("new").display());
         for line in ["alter FILE 1 1.00 --in-place", "alter FILE 1 1.00 -o FILE --force", &new] {
             for (signal, number) in [("INT", 2), ("TERM", 15), ("HUP", 1)] {
-                let output = slow.interrupted(&words(line, &file), signal);
+                let output = slow.during(&words(line, &file), |child| send(signal, child));
                 assert_eq!(output.status.signal(), Some(number), "{calls}, {line}: {output:?}");
                 assert_eq!(output.stdout, b"", "{calls}, {line}");
                 assert_eq!(fs::read(&file).unwrap(), WHOLE, "{calls}, {line}");
@@ -260,7 +289,7 @@ fn a_signal_that_comes_too_late() {
         let file = folder.with("pay.ach", WHOLE);
         for (signal, amount) in [("INT", "1.00"), ("TERM", "2.00"), ("HUP", "3.00")] {
             let line = format!("alter FILE 1 {amount} --in-place");
-            let run = Run::of(slow.interrupted(&words(&line, &file), signal));
+            let run = Run::of(slow.during(&words(&line, &file), |child| send(signal, child)));
             assert_eq!((run.status, run.err.as_str()), (0, ""), "{calls}, {signal}: {run:?}");
             assert!(run.out.contains(&format!("to {amount} (")), "{run:?}");
             assert!(ach!("show", file).out.contains(&format!(" {amount}  MARLOWE")));
@@ -275,7 +304,7 @@ fn a_signal_that_comes_too_late() {
 fn what_a_killed_run_leaves_is_told_of() {
     let (folder, slow) = (Folder::new(), Slow::new("rename"));
     let file = folder.with("pay.ach", WHOLE);
-    slow.interrupted(&words("alter FILE 1 1.00 --in-place", &file), "KILL");
+    slow.during(&words("alter FILE 1 1.00 --in-place", &file), |child| send("KILL", child));
     assert_eq!(fs::read(&file).unwrap(), WHOLE);
     let names = folder.names();
     assert!(names.len() == 2 && names[0].starts_with(".ach-"), "{names:?}");
@@ -375,6 +404,9 @@ fn a_link_to_nothing() {
         assert!(fs::symlink_metadata(&named).unwrap().is_file());
         assert_eq!(fs::read(&named).unwrap(), WHOLE);
     }
+    // What a link of the system stands for may have no name at all.
+    let run = ach!("write", table, "-o", "/dev/stdout", "--force");
+    run.fails_with("only a regular file is replaced");
     symlink("round", folder.path("round")).unwrap();
     ach!("write", table, "-o", folder.path("round"), "--force").fails_with("too many links");
     assert_eq!(folder.names(), ["in", "link", "round", "table"]);

@@ -122,15 +122,15 @@ impl Slow {
         command
     }
 
-    /// Starts the command, and sends the signal when it is in the slow call.
-    pub fn interrupted<A: AsRef<OsStr>>(&self, arguments: &[A], signal: &str) -> Output {
+    /// Starts the command, and does something when it is in the slow call.
+    pub fn during<A: AsRef<OsStr>>(&self, arguments: &[A], act: impl FnOnce(&Child)) -> Output {
         let child = self.command().args(arguments).spawn().unwrap();
         let start = Instant::now();
         while !self.folder.path("mark").exists() {
             assert!(start.elapsed() < Duration::from_secs(60), "the slow call does not come");
             std::thread::sleep(Duration::from_millis(1));
         }
-        send(signal, &child);
+        act(&child);
         let output = child.wait_with_output().unwrap();
         fs::remove_file(self.folder.path("mark")).unwrap();
         output
