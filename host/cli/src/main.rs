@@ -24,6 +24,7 @@ mod show;
 mod stdout;
 mod system;
 mod temporary;
+mod text;
 mod trouble;
 mod words;
 

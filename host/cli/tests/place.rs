@@ -3,7 +3,7 @@
 
 mod common;
 
-use common::{as_nobody, command, send, Folder, Run, Slow, WHOLE, WHOLE_TABLE};
+use common::{as_nobody, command, mode, send, Folder, Run, Slow, GAPS, WHOLE, WHOLE_TABLE};
 use generate::{big_file, BigFile};
 use std::ffi::{OsStr, OsString};
 use std::fs::{self, File, Permissions};
@@ -12,12 +12,6 @@ use std::os::unix::process::ExitStatusExt;
 use std::path::Path;
 use std::process::{Child, Command, Stdio};
 use std::time::{Duration, Instant};
-
-const GAPS: &[u8] = include_bytes!("../../../samples/gaps.ach");
-
-fn mode(path: &Path) -> u32 {
-    fs::metadata(path).unwrap().permissions().mode() & 0o7777
-}
 
 /// The words of a command line, with FILE for this path.
 fn words(line: &str, file: &Path) -> Vec<OsString> {
