@@ -167,9 +167,8 @@ impl Slow {
             std::thread::sleep(Duration::from_millis(1));
         }
         act(&child);
-        let output = child.wait_with_output().unwrap();
         fs::remove_file(self.folder.path("mark")).unwrap();
-        output
+        child.wait_with_output().unwrap()
     }
 }
 
