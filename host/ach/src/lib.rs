@@ -1,5 +1,5 @@
-//! Qalarimo ACH: checking, reading, writing and altering ACH payment files, taking entries out of
-//! them, where their credits pass a limit, and client lists.
+//! Qalarimo ACH: checking, reading, writing, altering and mending ACH payment files, taking entries
+//! out of them, where their credits pass a limit, and client lists.
 //!
 //! The work is done by a proved library, which this crate links as an archive. What is here turns
 //! slices into pointers and numbers into answers, and nothing else. Every function takes any
@@ -33,6 +33,7 @@ pub mod boundary;
 pub mod fields;
 mod funds;
 mod lines;
+mod mend;
 mod refusal;
 mod way;
 
@@ -41,6 +42,7 @@ pub use lines::{
     export, export_into, import, import_into, room_for_lines, room_for_table, LineField, BATCH_ROW,
     FILE_ROW, LINE_FIELDS,
 };
+pub use mend::{mend, mend_into, Change, Changes, Fillers, Mended};
 pub use refusal::{reason, Refusal};
 pub use way::Way;
 
