@@ -126,6 +126,7 @@ impl Way {
     /// assert_eq!(Way::Plain.room_for_changes(0), 272);
     /// assert_eq!(Way::Plain.room_for_changes(8 * 94), 272 + 2 * 276);
     /// assert_eq!(Way::Lined.room_for_changes(8 * 96), 272 + 2 * 276);
+    /// assert_eq!(Way::Plain.room_for_changes(usize::MAX), 91_999_904);
     /// ```
     pub const fn room_for_changes(self, file_length: usize) -> usize {
         EMPTY_CHANGES + BATCH_CHANGES * self.most_batches(file_length) + FILE_CHANGES

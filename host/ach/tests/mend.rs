@@ -125,6 +125,17 @@ fn room_for_the_most_changes() {
     }
 }
 
+/// What include/ach.h says is always enough; fewer records than five are never granted.
+#[test]
+fn room_that_the_header_names() {
+    let rooms = (5..=1_000_000).map(|records| {
+        let length = records * Way::Plain.record_length();
+        (Way::Plain.room_for_changes(length), length + 78)
+    });
+    assert!(rooms.clone().all(|(room, named)| room <= named));
+    assert!(rooms.clone().any(|(room, named)| room == named));
+}
+
 #[test]
 fn bytes_that_are_no_list_of_changes() {
     let good: &[u8] = b"0000001000000604006440406600644140760000000000000103";
