@@ -18,6 +18,7 @@ fn refusal_of_total(name: &std::path::Path) -> String {
   where  record 6, type 8 batch control, field 6 Total credit amount, columns 33-44
   stands \"000000012551\"
   due    \"000000012550\", the sum of the batch's credits
+  hint   `ach mend` would bring controls and fillers in line with the other records
 ",
         name.display()
     )

@@ -16,12 +16,16 @@ fn wrong_total() -> Vec<u8> {
     file
 }
 
+const HINT: &str =
+    "  hint   `ach mend` would bring controls and fillers in line with the other records\n";
+
 fn refusal_of_total(name: &Path) -> String {
     format!(
         "{}: refused, 21: the total is not the sum of the amounts
   where  record 6, type 8 batch control, field 6 Total credit amount, columns 33-44
   stands \"000000012551\"
   due    \"000000012550\", the sum of the batch's credits
+  hint   `ach mend` would bring controls and fillers in line with the other records
 ",
         name.display()
     )
@@ -142,7 +146,7 @@ fn the_words_for_a_line_end() {
         (10, b"\x00\xFF", "record 10, a filler", "\\x00\\xFF"),
     ] {
         let file = folder.with("bad.ach", &with_end(WHOLE_LINED, record, end));
-        let words = format!(
+        let mut words = format!(
             "{}: refused, 26: the record is not followed by CR LF
   where  {place}, behind column 94
   stands \"{stands}\"
@@ -150,6 +154,9 @@ fn the_words_for_a_line_end() {
 ",
             file.display()
         );
+        if place.ends_with("a filler") {
+            words += HINT;
+        }
         ach!("check", file, "--lined").is(1, "", &words);
         ach!("show", file, "--lined").is(1, "", &words);
         ach!("addendum", file, "1", "--lined").is(1, "", &words);
