@@ -351,13 +351,14 @@ fn import(list: &Source, rows: &Rows, target: &Target, line: bool) -> Result<(),
     let (file_row, batch_row) = (load_row(&rows.file)?, load_row(&rows.batch)?);
     let Loaded { name, bytes, stamp, whole } = load_list(list)?;
     let given = Import { file_row: &file_row, batch_row: &batch_row, list: &bytes };
-    let table = watched("importing", &name, || ach::import(&file_row, &batch_row, &bytes))
-        .map_err(|refusal| {
-            refused(refusal, line, || list_words::of_import(&name, &given, refusal))
-        })?;
-    if !whole {
-        return failed(format!("{name}: the library grants a list whose first line is none"));
+    let answer = watched("importing", &name, || ach::import(&file_row, &batch_row, &bytes));
+    let of_first_line = matches!(answer, Err(Refusal { number: 29, record: 1, .. }));
+    if !whole && !of_first_line {
+        return failed(format!("{name}: the library takes a first line that is none"));
     }
+    let table = answer.map_err(|refusal| {
+        refused(refusal, line, || list_words::of_import(&name, &given, refusal))
+    })?;
     let words = written(&place, &held_by_table(&table)?, table.len(), line);
     place.put(&table, stamp, &words)
 }

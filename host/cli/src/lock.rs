@@ -98,3 +98,24 @@ fn no_locks<T>(path: &Path, error: &io::Error) -> Result<T, Trouble> {
     let words = "the file cannot be locked here, and is not replaced without a lock";
     failed(format!("{}: {words} ({}); -o takes a new name", shown(path), plain(error)))
 }
+
+#[cfg(test)]
+mod tests {
+    use super::*;
+
+    #[test]
+    fn a_lock_that_stays_is_not_waited_for_without_end() {
+        let path = std::env::temp_dir().join(format!("ach-lock-{}", std::process::id()));
+        fs::write(&path, b"READ").unwrap();
+        let words =
+            |outcome: Result<Option<Locked>, Trouble>| outcome.err().map(|it| it.to_string());
+        let other = File::open(&path).unwrap();
+        other.lock().unwrap();
+        let said = words(Locked::within(&path, Duration::from_millis(20))).unwrap();
+        assert!(said.ends_with("another run has locked the file"), "{said}");
+        other.unlock().unwrap();
+        assert_eq!(words(Locked::within(&path, Duration::ZERO)), None);
+        fs::remove_file(&path).unwrap();
+        assert!(matches!(Locked::within(&path, Duration::ZERO), Ok(None)));
+    }
+}

@@ -72,9 +72,10 @@ filled in. A line break at the end of a row's file is NOT stripped: it counts.
   --line       one line: OK batches entries addenda debit credit (in cents), or
                NO number record field (check, read, write, alter, remove, mend,
                import, export; for an import's 29, 30 and 32 the line is the
-               record); for funds OK batches record credits: how many batches
-               come up to the one found and with it, the record of its control
-               and the credits so far, or OK batches 0 0 for none
+               record, and an export's numbers are those of TABLE); for funds
+               OK batches record credits: how many batches come up to the one
+               found and with it, the record of its control and the credits so
+               far, or OK batches 0 0 for none
   --           what follows is no option
   --help, --version
 

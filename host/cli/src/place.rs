@@ -290,9 +290,12 @@ fn tell_of_leftovers(place: &Path) {
     warn(&format!("{}{more}: {words}", shown(first)));
 }
 
-/// The file that a name stands for, link by link, whether it is there or not: a link stays a link.
+/// The file that a name stands for, whether it is there or not: a link stays a link.
 fn followed(path: &Path) -> Result<PathBuf, Trouble> {
     let mut at = path.to_path_buf();
+    if path.exists() {
+        return Ok(fs::canonicalize(path).unwrap_or(at));
+    }
     for _ in 0..MOST_LINKS {
         match fs::read_link(&at) {
             Ok(next) => at = folder_of(&at).join(next),

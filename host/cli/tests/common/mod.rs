@@ -4,13 +4,18 @@
 use std::ffi::OsStr;
 use std::fs;
 use std::io::Write;
+use std::os::unix::fs::MetadataExt;
+use std::os::unix::process::CommandExt;
 use std::path::{Path, PathBuf};
-use std::process::{Command, Output, Stdio};
+use std::process::{Child, Command, Output, Stdio};
 use std::sync::atomic::{AtomicU32, Ordering};
+use std::time::{Duration, Instant};
 
 pub const WHOLE: &[u8] = include_bytes!("../../../../samples/whole.ach");
 pub const WHOLE_LINED: &[u8] = include_bytes!("../../../../samples/whole-lined.ach");
 pub const WHOLE_TABLE: &[u8] = include_bytes!("../../../../samples/whole.table");
+
+const NOBODY: u32 = 65_534;
 
 /// A folder that is removed with all that is in it.
 pub struct Folder(PathBuf);
@@ -93,12 +98,74 @@ pub fn ach<I: IntoIterator<Item = A>, A: AsRef<OsStr>>(arguments: I) -> Run {
     Run::of(command().args(arguments).output().unwrap())
 }
 
+/// The command under calls of the system that are slow or refused: see `slow.c`.
+pub struct Slow {
+    folder: Folder,
+    calls: &'static str,
+}
+
+impl Slow {
+    pub fn new(calls: &'static str) -> Self {
+        let folder = Folder::new();
+        let source = concat!(env!("CARGO_MANIFEST_DIR"), "/tests/common/slow.c");
+        let mut compiler = Command::new("cc");
+        compiler.args(["-shared", "-fPIC", source, "-o"]).arg(folder.path("slow.so"));
+        assert!(compiler.status().unwrap().success());
+        Slow { folder, calls }
+    }
+
+    pub fn command(&self) -> Command {
+        let mut command = command();
+        command.env("LD_PRELOAD", self.folder.path("slow.so"));
+        command.env("SLOW", self.calls).env("MARK", self.folder.path("mark"));
+        command.stdout(Stdio::piped()).stderr(Stdio::piped());
+        command
+    }
+
+    /// Starts the command, and does something when it is in the slow call.
+    pub fn during<A: AsRef<OsStr>>(&self, arguments: &[A], act: impl FnOnce(&Child)) -> Output {
+        let child = self.command().args(arguments).spawn().unwrap();
+        let start = Instant::now();
+        while !self.folder.path("mark").exists() {
+            assert!(start.elapsed() < Duration::from_secs(60), "the slow call does not come");
+            std::thread::sleep(Duration::from_millis(1));
+        }
+        act(&child);
+        let output = child.wait_with_output().unwrap();
+        fs::remove_file(self.folder.path("mark")).unwrap();
+        output
+    }
+}
+
+pub fn send(signal: &str, child: &Child) {
+    let mut kill = Command::new("sh");
+    kill.args(["-c", "kill -s $0 $1", signal, &child.id().to_string()]);
+    assert!(kill.status().unwrap().success());
+}
+
 /// Arguments of different kinds, as one list.
 #[macro_export]
 macro_rules! ach {
     ($($argument:expr),* $(,)?) => {
         $crate::common::ach([$(::std::ffi::OsString::from(&$argument)),*])
     };
+}
+
+/// Who may read everything runs the command as somebody who may not.
+pub fn as_nobody(arguments: &[&OsStr]) -> Option<Run> {
+    let mut unprivileged = command();
+    unprivileged.args(arguments);
+    let may_read_everything = fs::metadata("/proc/self").unwrap().uid() == 0;
+    if may_read_everything {
+        unprivileged.uid(NOBODY).gid(NOBODY);
+    }
+    match unprivileged.output() {
+        Ok(output) => Some(Run::of(output)),
+        Err(error) => {
+            eprintln!("skipped: the command cannot be run as nobody: {error}");
+            None
+        }
+    }
 }
 
 /// The command with these bytes on standard input.
