@@ -2,10 +2,13 @@
 
 mod common;
 
-use common::{fed, Folder, WHOLE, WHOLE_LINED};
+use common::{fed, send, Folder, Run, Slow, WHOLE, WHOLE_LINED};
 use samples::Mending;
+use std::ffi::OsString;
 use std::fs;
 use std::os::unix::fs::PermissionsExt;
+use std::os::unix::process::ExitStatusExt;
+use std::path::Path;
 
 const WRONG_HASH: &[u8] = include_bytes!("../../../samples/refused/hash-as-printed.ach");
 const TAXES: &[u8] = include_bytes!("../../../samples/taxes.ach");
@@ -143,7 +146,7 @@ fn both_results_or_none() {
     let (file, old) = (folder.with("a.ach", WRONG_HASH), folder.with("old", b"old"));
     let (new, list) = (folder.path("new.ach"), folder.path("list"));
     let nowhere = folder.path("nowhere/list");
-    let kept = |run: common::Run, words: &str| {
+    let kept = |run: Run, words: &str| {
         run.fails_with(words);
         assert_eq!(folder.names(), ["a.ach", "old"]);
         assert_eq!(
@@ -165,6 +168,39 @@ fn both_results_or_none() {
     let twin = folder.path("../").join(folder.path("").file_name().unwrap()).join("new.ach");
     kept(ach!("mend", file, "-o", new, "--changes", twin), "such a file already");
     kept(ach!("mend", file, "-o", new, "--changes", twin, "--force"), "appeared there meanwhile");
+}
+
+fn in_place_with_list(file: &Path, list: &Path) -> [OsString; 5] {
+    ["mend".into(), file.into(), "--in-place".into(), "--changes".into(), list.into()]
+}
+
+/// The list has its name when it is seen that somebody has written to the file: it gives it back.
+#[test]
+fn a_file_that_changes_meanwhile() {
+    let (folder, slow) = (Folder::new(), Slow::new("fsync"));
+    let (file, list) = (folder.with("a.ach", WRONG_HASH), folder.path("list"));
+    let output = slow.during(&in_place_with_list(&file, &list), |_| {
+        fs::write(&file, WHOLE).unwrap();
+    });
+    Run::of(output).fails_with("a.ach: the file changed since it was read");
+    assert_eq!(fs::read(&file).unwrap(), WHOLE);
+    assert_eq!(folder.names(), ["a.ach"]);
+}
+
+/// A signal ends the run before either result is in its place, or when both are.
+#[test]
+fn a_signal_meanwhile() {
+    for calls in ["fsync", "fsync no-unnamed", "rename", "rename no-unnamed"] {
+        let (folder, slow) = (Folder::new(), Slow::new(calls));
+        let (file, list) = (folder.with("a.ach", WRONG_HASH), folder.path("list"));
+        let output = slow.during(&in_place_with_list(&file, &list), |child| send("TERM", child));
+        let both = calls.starts_with("rename");
+        let (names, bytes) =
+            if both { (&["a.ach", "list"][..], TAXES) } else { (&["a.ach"][..], WRONG_HASH) };
+        assert_eq!(output.status.signal(), (!both).then_some(15), "{calls}");
+        assert_eq!(folder.names(), names, "{calls}");
+        assert_eq!(fs::read(&file).unwrap(), bytes, "{calls}");
+    }
 }
 
 #[test]
