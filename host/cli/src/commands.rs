@@ -301,7 +301,7 @@ fn difference(before: &Acceptance, after: &Acceptance) -> Acceptance {
 
 fn mend(way: Way, file: &Source, mending: &Mending, line: bool) -> Result<(), Trouble> {
     let Mending::Put { target, changes } = mending else {
-        return mend_nothing(way, file, line);
+        return mend_dry(way, file, line);
     };
     let place = Place::open(target)?;
     let second = changes.as_deref().map(SecondPlace::open).transpose()?;
@@ -316,7 +316,7 @@ fn mend(way: Way, file: &Source, mending: &Mending, line: bool) -> Result<(), Tr
 }
 
 /// Says what mending would change.
-fn mend_nothing(way: Way, file: &Source, line: bool) -> Result<(), Trouble> {
+fn mend_dry(way: Way, file: &Source, line: bool) -> Result<(), Trouble> {
     let loaded = load_file(way, file, line)?;
     let mended = mended(way, &loaded, line)?;
     let held = held_by(way, &mended.file)?;
