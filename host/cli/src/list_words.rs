@@ -3,7 +3,8 @@
 use crate::formed::Sections;
 use crate::list::{self, Fault, Line};
 use crate::money::spelled;
-use crate::words::{in_formed, plain_text, Explanation};
+use crate::text::plain_text;
+use crate::words::{in_formed, Explanation};
 use ach::{Acceptance, LineField, Refusal, BATCH_ROW, FILE_ROW, LINE_FIELDS};
 use std::ops::Range;
 

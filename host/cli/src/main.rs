@@ -25,6 +25,7 @@ mod show;
 mod stdout;
 mod system;
 mod temporary;
+mod text;
 mod trouble;
 mod words;
 

@@ -1,6 +1,6 @@
 //! What mending changed, in words.
 
-use crate::words::plain_text;
+use crate::text::plain_text;
 use ach::fields::{record_type, Kind, RecordType, Sum};
 use ach::{Change, Changes, Fillers};
 

@@ -63,19 +63,10 @@ fn import() {
     assert_eq!(fs::read(&table).unwrap(), TABLE);
     desk.import(LIST, &["--line"]).fails_with("there is such a file already; --force");
     desk.import(LIST, &["--line", "--force"]).is(0, "OK 1 4 0 0 426249\n", "");
-    desk.import(b"X", &["--force"]).refused_with("29", "line 1");
+    desk.import(b"X", &["--force"]).refused_with("29", "", "line 1");
     desk.import(b"X", &["--force", "--line"]).is(1, "NO 29 1 0\n", "");
     assert_eq!(fs::read(&table).unwrap(), TABLE);
     assert_eq!(desk.folder.names(), ["batch-row", "file-row", "list.csv", "table"]);
-}
-
-impl Run {
-    #[track_caller]
-    fn refused_with(&self, number: &str, words: &str) {
-        assert_eq!((self.status, self.out.as_str()), (1, ""), "{self:?}");
-        assert!(self.err.contains(&format!(": refused, {number}: ")), "{self:?}");
-        assert!(self.err.contains(words), "{self:?}");
-    }
 }
 
 #[test]
@@ -87,7 +78,7 @@ fn import_from_a_stream_and_to_one() {
     let table = std::str::from_utf8(TABLE).unwrap();
     run.is(0, table, &format!("standard output: 576 bytes written; {HELD}\n"));
     let run = fed(&[&["import", "-", "-o", "-"], rows.as_slice()].concat(), b"\r\n");
-    run.refused_with("29", "standard input: refused");
+    run.refused_with("29", "", "standard input: refused");
 }
 
 #[test]
@@ -131,9 +122,10 @@ fn export() {
     let other = folder.path("other.csv");
     let place =
         "record 4, type 6 entry 2, field 4 Check digit, column 12 of the file to be written";
-    ach!("export", bad, "-o", other).refused_with("12", place);
+    ach!("export", bad, "-o", other).refused_with("12", "", place);
     ach!("export", bad, "-o", other, "--line").is(1, "NO 12 4 4\n", "");
-    ach!("export", folder.with("short.table", b"000001"), "-o", other).refused_with("24", "shape");
+    ach!("export", folder.with("short.table", b"000001"), "-o", other)
+        .refused_with("24", "", "shape");
     assert_eq!(folder.names(), ["bad.table", "good.table", "list.csv", "short.table"]);
 }
 
@@ -204,7 +196,7 @@ fn every_list_of_the_samples() {
         if status == 1 {
             let run = desk.import(list, &["--force"]);
             let number = line.split(' ').nth(1).unwrap();
-            run.refused_with(number, "\n  where  line ");
+            run.refused_with(number, "", "\n  where  line ");
             assert!(run.err.contains("\n  stands ") && run.err.contains("\n  due    "), "{name}");
         }
     }
@@ -420,7 +412,7 @@ fn a_list_without_hope_is_left_early() {
     let table = desk.folder.path("table");
     let options = format!("-o {}", table.display());
     import("/dev/zero", &format!("{options} --line")).is(1, "NO 29 1 0\n", "");
-    import("/dev/zero", &options).refused_with("29", "stands \"\\x00\" behind \"\"\n");
+    import("/dev/zero", &options).refused_with("29", "", "stands \"\\x00\" behind \"\"\n");
     // A file of the longest length that is read.
     let zeros = desk.folder.path("zeros");
     fs::File::create(&zeros).unwrap().set_len(1_000_000_000).unwrap();

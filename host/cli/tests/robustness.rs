@@ -2,7 +2,7 @@
 
 mod common;
 
-use common::{as_nobody, command, fed, Folder, Run, WHOLE, WHOLE_TABLE};
+use common::{as_nobody, command, fed, mode, Folder, Run, WHOLE, WHOLE_TABLE};
 use std::ffi::OsStr;
 use std::fs::{self, File, Permissions};
 use std::io::Write;
@@ -13,10 +13,6 @@ use std::process::{Command, Stdio};
 use std::time::Duration;
 
 const RECORDS_IN_LONGEST: usize = 1_000_000;
-
-fn mode(path: &Path) -> u32 {
-    fs::metadata(path).unwrap().permissions().mode() & 0o7777
-}
 
 #[test]
 fn a_folder_is_no_file() {

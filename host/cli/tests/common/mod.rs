@@ -4,7 +4,7 @@
 use std::ffi::OsStr;
 use std::fs;
 use std::io::Write;
-use std::os::unix::fs::MetadataExt;
+use std::os::unix::fs::{MetadataExt, PermissionsExt};
 use std::os::unix::process::CommandExt;
 use std::path::{Path, PathBuf};
 use std::process::{Child, Command, Output, Stdio};
@@ -14,6 +14,37 @@ use std::time::{Duration, Instant};
 pub const WHOLE: &[u8] = include_bytes!("../../../../samples/whole.ach");
 pub const WHOLE_LINED: &[u8] = include_bytes!("../../../../samples/whole-lined.ach");
 pub const WHOLE_TABLE: &[u8] = include_bytes!("../../../../samples/whole.table");
+pub const GAPS: &[u8] = include_bytes!("../../../../samples/gaps.ach");
+pub const GAPS_LINED: &[u8] = include_bytes!("../../../../samples/gaps-lined.ach");
+
+/// The sample, plain or lined, with a cent too much in the total of its batch.
+pub fn wrong_total(sample: &[u8]) -> Vec<u8> {
+    let mut file = sample.to_vec();
+    let record = file.len() / 10;
+    file[5 * record + 43] = b'1';
+    file
+}
+
+/// The words for that file.
+pub fn refusal_of_total(name: &Path) -> String {
+    format!(
+        "{}: refused, 21: the total is not the sum of the amounts
+  where  record 6, type 8 batch control, field 6 Total credit amount, columns 33-44
+  stands \"000000012551\"
+  due    \"000000012550\", the sum of the batch's credits
+{MEND_HINT}",
+        name.display()
+    )
+}
+
+/// The hint for a file that mending cures.
+pub const MEND_HINT: &str =
+    "  hint   `ach mend` would bring controls and fillers in line with the other records\n";
+
+/// The permissions of a file.
+pub fn mode(path: &Path) -> u32 {
+    fs::metadata(path).unwrap().permissions().mode() & 0o7777
+}
 
 const NOBODY: u32 = 65_534;
 
@@ -80,6 +111,15 @@ impl Run {
         assert_eq!((self.status, self.out.as_str(), self.err.as_str()), (status, out, err));
     }
 
+    /// The status is 1, nothing is on standard output, and standard error has this number for what
+    /// has this name, and these words.
+    #[track_caller]
+    pub fn refused_with(&self, number: &str, name: &str, words: &str) {
+        assert_eq!((self.status, self.out.as_str()), (1, ""), "{self:?}");
+        assert!(self.err.contains(&format!("{name}: refused, {number}: ")), "{self:?}");
+        assert!(self.err.contains(words), "{self:?}");
+    }
+
     /// The status is 2, nothing is on standard output, and standard error says this.
     #[track_caller]
     pub fn fails_with(&self, words: &str) {
@@ -131,9 +171,8 @@ impl Slow {
             std::thread::sleep(Duration::from_millis(1));
         }
         act(&child);
-        let output = child.wait_with_output().unwrap();
         fs::remove_file(self.folder.path("mark")).unwrap();
-        output
+        child.wait_with_output().unwrap()
     }
 }
 

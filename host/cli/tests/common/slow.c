@@ -1,6 +1,6 @@
 // Calls of the system that are slow or refused, for tests that have to come in between: loaded
 // before the C library by LD_PRELOAD. SLOW names what is asked for; MARK is the file that is made
-// when a slow call has begun.
+// when a slow call has begun. The call goes on when it is removed, or after 20 seconds.
 #define _GNU_SOURCE
 #include <errno.h>
 #include <fcntl.h>
@@ -16,9 +16,14 @@ static int asked(const char *what) {
 }
 
 static void pause_in(const char *call) {
-    if (asked(call)) {
-        close(openat(AT_FDCWD, getenv("MARK"), O_CREAT | O_WRONLY, 0600));
-        usleep(300000);
+    static int has_paused = 0;
+    if (has_paused || !asked(call)) {
+        return;
+    }
+    has_paused = 1;
+    close(openat(AT_FDCWD, getenv("MARK"), O_CREAT | O_WRONLY, 0600));
+    for (int i = 0; i < 20000 && access(getenv("MARK"), F_OK) == 0; i++) {
+        usleep(1000);
     }
 }
 
