@@ -11,7 +11,8 @@
 //! spreadsheets export them; it becomes a table by [`import`], and [`export`] makes one of a table.
 //! The *rows* of a file are two numbers for each batch, the record number of its control and the
 //! credits so far in cents. The check gives them ([`check_into`], [`rows_of`]), [`alter`] and
-//! [`take_out`] keep them true, and [`runs_out`] asks them where a limit is passed.
+//! [`take_out`] keep them true, and [`runs_out`] asks them where a limit is passed. A file that
+//! is refused for its controls or fillers alone is put right by [`mend`].
 //!
 //! ```
 //! use ach::Way;

@@ -66,8 +66,8 @@ filled in. A line break at the end of a row's file is NOT stripped: it counts.
                new file is for its owner alone (600)
   --list PATH  entries to be removed, beside those on the command line
   --changes PATH
-               where the list of what was mended goes, as programs read it: a new
-               file for its owner alone, put with the mended file or not at all
+               where the list of what was mended goes, as include/ach.h has it:
+               a new file for its owner alone, put with the mended file or not
   --dry-run    write nothing (mend)
   --line       one line: OK batches entries addenda debit credit (in cents), or
                NO number record field (check, read, write, alter, remove, mend,
