@@ -1,7 +1,8 @@
 //! Putting a result into its place, all of it or nothing.
 //!
-//! A command opens the place before it reads anything, so that a place that cannot be had is told
-//! of early and a file that is to be replaced is locked meanwhile; then it puts its result there.
+//! A command calls [`Place::open`] before it reads anything, so that a place that cannot be had is
+//! told of early and a file that is to be replaced is locked meanwhile, and [`Place::put`] as its
+//! last step, with the words for what it has done.
 
 use crate::input::Stamp;
 use crate::lock::Locked;

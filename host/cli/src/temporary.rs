@@ -110,7 +110,7 @@ pub fn folder_of(path: &Path) -> &Path {
     }
 }
 
-/// The temporary files beside a place that a run has left which was killed.
+/// The temporary files beside a place that were left by runs that were killed.
 pub fn leftovers(place: &Path) -> Vec<PathBuf> {
     let entries = fs::read_dir(folder_of(place)).into_iter().flatten().flatten();
     let mut left: Vec<PathBuf> = entries
@@ -132,7 +132,8 @@ fn has_temporary_name(name: &OsStr) -> bool {
     numbers.is_some_and(|(process, attempt)| is_number(process) && is_number(attempt))
 }
 
-/// Whoever works on a temporary file has it locked, whatever machine's number is in its name.
+/// Whoever works on a temporary file has it locked. The number in its name would not tell: another
+/// machine's process may have it, or a later one.
 fn is_left(path: &Path) -> bool {
     File::open(path).is_ok_and(|file| file.try_lock().is_ok()) && path.exists()
 }
