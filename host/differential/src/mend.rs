@@ -35,6 +35,7 @@ pub fn compare(run: &Run, tally: &mut Tally) {
         every_line_end(tally, &file);
     }
     fillers(tally);
+    many_fillers(tally);
     controls_missing_or_twice(tally);
     limits(tally);
     biggest_files(tally);
@@ -158,7 +159,10 @@ fn is_listed(way: Way, file: &[u8], mended: &Mended) -> bool {
             && listed.iter().all(|change| apply(way, &mut renewed, *digit, change))
     });
     let control = position_of_control(way, &mended.file);
-    let [old, new] = [file, &mended.file].map(|file| file.len() / way.record_length() - control);
+    let behind = |file: &[u8]| (file.len() / way.record_length()).checked_sub(control);
+    let (Some(old), Some(new)) = (behind(file), behind(&mended.file)) else {
+        return false;
+    };
     let counted = (old != new)
         .then_some(Fillers { old: u8::try_from(old).ok().filter(|old| *old <= 9), new: new as u8 });
     renewed.truncate(control * way.record_length());
@@ -173,9 +177,10 @@ fn position_of_control(way: Way, file: &[u8]) -> usize {
 
 /// Puts the new text where the old one has to stand, in a control of this type.
 fn apply(way: Way, file: &mut [u8], digit: u8, change: &Change) -> bool {
-    let start = (change.record as usize - 1) * way.record_length();
+    let before = usize::try_from(change.record).ok().and_then(|record| record.checked_sub(1));
+    let record = before.and_then(|before| file.chunks_mut(way.record_length()).nth(before));
     let field = record_type(digit).and_then(|known| known.field(change.field));
-    let (Some(field), Some(record)) = (field, file.get_mut(start..)) else {
+    let (Some(record), Some(field)) = (record, field) else {
         return false;
     };
     let text = &mut record[field.first - 1..field.last];
@@ -310,6 +315,17 @@ fn fillers(tally: &mut Tally) {
                 let copy = &file[(record - 1) * RECORD..record * RECORD];
                 both(tally, "a record behind the fillers", &[&filled, copy].concat());
             }
+        }
+    }
+}
+
+/// So many more than are due that a count in one byte or two would begin anew.
+fn many_fillers(tally: &mut Tally) {
+    for (records, due) in [(5, 5), (10, 0)] {
+        let file = of_records(records);
+        for more in [256, 65_536] {
+            let filled = with_fillers(&file, records, due + more);
+            cured(tally, "many fillers", &file, &filled);
         }
     }
 }
