@@ -107,10 +107,10 @@ pub fn put(line: Line, number: u64, old: &[u8], new: &[u8], list: &mut [u8], sta
     requires { ⌜ (94 ≤ length (now old)) × (94 ≤ length (now new)) × Room (joined (fieldChanges number 1 (rowsOf line) (now old) (now new))) (now list) start ⌝ }
     ensures { λ r. ⌜ Puts (joined (fieldChanges number 1 (rowsOf line) (now (old .entry)) (now (new .entry)))) (now (list .entry)) (now (list .exit)) start r ⌝ }
 {
-    let count = layout::rows_in(line);
+    let fields = layout::rows_in(line);
     let mut to = start;
     let mut k = 0;
-    while k < count {
+    while k < fields {
         to = put_field(
             layout::row_of(line, k),
             number,
