@@ -15,7 +15,8 @@
  *
  * Any bytes of any length may be lent, and every function does its own
  * checking. No function keeps anything between calls or allocates memory, so
- * that calls on different memory may run at the same time.
+ * that calls on different memory may run at the same time. ach_take_out needs
+ * 140,000 bytes of stack, every other function 8,000.
  */
 #ifndef ACH_H
 #define ACH_H
@@ -199,8 +200,7 @@ uint64_t ach_alter(uint64_t way, uint8_t *file, size_t n, uint64_t *rows,
  * are left. The numbers at `entries` are only read; they may be null if count
  * is 0.
  *
- * It keeps a byte for each entry that a file can have on the stack, a million in
- * all: a thread that calls it needs more stack than that.
+ * It keeps a bit for each entry that a file can have on the stack.
  */
 uint64_t ach_take_out(uint64_t way, uint8_t *file, size_t n,
                       const uint64_t *entries, size_t count, uint64_t *rows,

@@ -27,7 +27,7 @@ fn record_at(way: Way, file: &[u8], i: usize) -> [u8; 94]
 
 // The records before the file control, those that stay put one behind the other from the front on.
 fn close_up(way: Way, file: &mut [u8], flags: &[u8], count: usize) -> Sums
-    requires { ⌜ Walkable way (now file) count × (length (now flags) ≡ 1000000) ⌝ }
+    requires { ⌜ Walkable way (now file) count × (length (now flags) ≡ 125000) ⌝ }
     ensures { λ r. ⌜ Closed way (now (flags .entry)) (now (file .entry)) count r (now (file .exit)) ⌝ }
 {
     let mut w = moving::first();
@@ -68,7 +68,7 @@ fn blank(s: &mut [u8])
 
 // The file without the flagged entries, and blanks behind it; its new length.
 pub fn shorten(way: Way, file: &mut [u8], flags: &[u8], count: usize) -> usize
-    requires { ⌜ Walkable way (now file) count × (length (now flags) ≡ 1000000) ⌝ }
+    requires { ⌜ Walkable way (now file) count × (length (now flags) ≡ 125000) ⌝ }
     ensures { λ r. ⌜ (r ≡ length (closedUp way (now (flags .entry)) (now (file .entry)))) × (now (file .exit) ≡ closedUp way (now (flags .entry)) (now (file .entry)) ++ replicate (length (now (file .entry)) - r) 32) ⌝ }
 {
     let sums = close_up(way, file, flags, count);

@@ -3,16 +3,15 @@
 use Prim.Native.Nat.{ℕ, zero, suc, _+_, _-_, _≤_, _<_}
 use native.Mathlib.Numerals.{add-one, sub-one}
 use native.Mathlib.Omega.{arith}
-use mathlib.Core.Path.{_≡_, refl, sym, ap, _∙_, subst}
-use mathlib.Core.Bool.{true, false, _&&_, _||_, or-true, or-false}
+use mathlib.Core.Path.{_≡_, refl, sym, ap, _∙_}
+use mathlib.Core.Bool.{Bool, true, false, _&&_, _||_, or-true, or-false}
 use mathlib.Core.List.{List, [], _∷_}
-use borrow.Author.Tests.{eqb-false, eq-eqb, ne-eqb, le-leb, lt-leb}
+use borrow.Author.Tests.{le-leb, lt-leb}
 use lib.Dec.{eqb, leb}
-use lib.ListN.{length, drop, getD, set, length-set, drop-of-length-le}
-use lib.Seq.{drop-cons, getD-set-same, getD-set-other}
+use lib.ListN.{length, drop, getD, drop-of-length-le}
+use lib.Seq.{drop-cons}
 use Rattle.view.specs.View.{Entry, View, entriesOf}
 use Rattle.view.specs.Outcome.{exists}
-use Rattle.bridge.proofs.BridgeFields.{by-eq}
 use Rattle.without.specs.Without.{named, entriesLeft, allExist, without}
 use Rattle.without.proofs.Left.{by-named, entries-without}
 use Rattle.moving.specs.Walk.{gone, someLeft}
@@ -22,13 +21,13 @@ use Rattle.moving.specs.Walk.{gone, someLeft}
 -- the numbers before index i are entries' and are flagged: what is left tells the rest
 pub record Marking (ns : List ℕ) (count : ℕ) (flags : List ℕ) (i : ℕ) : Type 0 where
   pub inside : i ≤ length ns
-  pub long : length flags ≡ 1000000
+  pub long : length flags ≡ 125000
   pub there : (v : View) → length (entriesOf v) ≡ count → allExist v (drop i ns) ≡ allExist v ns
   pub marks : (k : ℕ) → (gone flags k || named k (drop i ns)) ≡ named k ns
 
-pub marking-first : (ns : List ℕ) (count : ℕ) (flags : List ℕ) → length flags ≡ 1000000 → ((k : ℕ) → getD flags k 0 ≡ 0) → Marking ns count flags 0
+pub marking-first : (ns : List ℕ) (count : ℕ) (flags : List ℕ) → length flags ≡ 125000 → ((k : ℕ) → gone flags k ≡ false) → Marking ns count flags 0
 marking-first ns count flags l z =
-    record { inside = omega arith; long = l; there = λ v e. refl; marks = λ k. ap (λ b. eqb b 1 || named k ns) (z k) }
+    record { inside = omega arith; long = l; there = λ v e. refl; marks = λ k. ap (λ b. b || named k ns) (z k) }
 
 module _ (ns : List ℕ) (i : ℕ) (h : i < length ns) where
   next : drop i ns ≡ getD ns i 0 ∷ drop (i + 1) ns
@@ -42,6 +41,10 @@ module _ (ns : List ℕ) (i : ℕ) (h : i < length ns) where
   unfolding named
   named-next k = rw next refl
 
+in-turn : (new old rest : Bool) → ((new || old) || rest) ≡ (old || (new || rest))
+in-turn true old rest = sym (or-true old)
+in-turn false old rest = refl
+
 -- a number that is no entry's
 module _ {ns : List ℕ} {count : ℕ} {flags : List ℕ} {i : ℕ} (m : Marking ns count flags i) (h : i < length ns) where
   bad : (v : View) → length (entriesOf v) ≡ count → exists v (getD ns i 0) ≡ false → false ≡ allExist v ns
@@ -53,24 +56,21 @@ module _ {ns : List ℕ} {count : ℕ} {flags : List ℕ} {i : ℕ} (m : Marking
   pub bad-past : count < getD ns i 0 → 1 ≤ getD ns i 0 → (v : View) → length (entriesOf v) ≡ count → false ≡ allExist v ns
   bad-past p o v e = bad v e (rw (le-leb 1 (getD ns i 0) o, e, lt-leb (getD ns i 0) count p) refl)
 
-  -- one that is
-  module _ (o : 1 ≤ getD ns i 0) (p : getD ns i 0 ≤ count) (few : count < 1000000) where
-    marks-on : (k : ℕ) → (gone (set flags (getD ns i 0) 1) k || named k (drop (i + 1) ns)) ≡ named k ns
+  -- one that is: its flag is set, and no other one
+  module _ (o : 1 ≤ getD ns i 0) (p : getD ns i 0 ≤ count) (after : List ℕ) (same : length after ≡ length flags) (sets : (k : ℕ) → gone after k ≡ (eqb (getD ns i 0) k || gone flags k)) where
+    marks-on : (k : ℕ) → (gone after k || named k (drop (i + 1) ns)) ≡ named k ns
     marks-on k =
-        let n = getD ns i 0 in
         let rest = named k (drop (i + 1) ns) in
-        let all : (gone flags k || (eqb n k || rest)) ≡ named k ns = ap (λ b. gone flags k || b) (sym (named-next ns i h k)) ∙ m .marks k in
-        by-eq n k
-        (λ e.
-        let flag : getD (set flags n 1) k 0 ≡ 1 = subst (λ j. getD (set flags n 1) j 0 ≡ 1) e (getD-set-same flags n 1 0 (omega (arith, m .long))) in
-        rw flag (sym (sym all ∙ rw (eq-eqb n k e) (or-true (gone flags k)))))
-        (λ f. rw (getD-set-other flags n k 1 0 (λ e. eqb-false n k f (sym e))) (ap (λ b. gone flags k || (b || rest)) (sym f) ∙ all))
+        ap (λ b. b || rest) (sets k)
+        ∙ in-turn (eqb (getD ns i 0) k) (gone flags k) rest
+        ∙ ap (λ b. gone flags k || b) (sym (named-next ns i h k))
+        ∙ m .marks k
 
-    pub marking-on : Marking ns count (set flags (getD ns i 0) 1) (i + 1)
+    pub marking-on : Marking ns count after (i + 1)
     marking-on =
         record {
           inside = omega arith;
-          long = length-set flags (getD ns i 0) 1 ∙ m .long;
+          long = same ∙ m .long;
           there = λ v e. sym (exist-next ns i h v ∙ rw (le-leb 1 (getD ns i 0) o, e, le-leb (getD ns i 0) count p) refl) ∙ m .there v e;
           marks = marks-on;
         }
@@ -87,21 +87,15 @@ module _ {ns : List ℕ} {count : ℕ} {flags : List ℕ} {i : ℕ} (m : Marking
 
 -- ---- whether an entry is left
 
-some-here : (flags : List ℕ) (k n : ℕ) → 0 < n → gone flags k ≡ false → someLeft flags k n ≡ true
+pub some-found : (flags : List ℕ) (k n : ℕ) → 0 < n → gone flags k ≡ false → true ≡ someLeft flags k n
 unfolding someLeft
-some-here flags k zero h g = absurd (omega arith)
-some-here flags k (suc n) h g = rw g refl
+some-found flags k zero h g = absurd (omega arith)
+some-found flags k (suc n) h g = rw g refl
 
-some-on : (flags : List ℕ) (k n : ℕ) → 0 < n → gone flags k ≡ true → someLeft flags k n ≡ someLeft flags (k + 1) (n - 1)
+pub some-further : (flags : List ℕ) (k n : ℕ) → 0 < n → gone flags k ≡ true → someLeft flags (k + 1) (n - 1) ≡ someLeft flags k n
 unfolding someLeft
-some-on flags k zero h g = absurd (omega arith)
-some-on flags k (suc n) h g = rw (g, sub-one) refl
-
-pub some-found : (flags : List ℕ) (k n : ℕ) → 0 < n → (getD flags k 0 ≡ 1 → ⊥) → true ≡ someLeft flags k n
-some-found flags k n h f = sym (some-here flags k n h (ne-eqb (getD flags k 0) 1 f))
-
-pub some-further : (flags : List ℕ) (k n : ℕ) → 0 < n → getD flags k 0 ≡ 1 → someLeft flags (k + 1) (n - 1) ≡ someLeft flags k n
-some-further flags k n h f = sym (some-on flags k n h (eq-eqb (getD flags k 0) 1 f))
+some-further flags k zero h g = absurd (omega arith)
+some-further flags k (suc n) h g = rw (g, sub-one) refl
 
 pub some-none : (flags : List ℕ) (k n : ℕ) → n ≤ 0 → false ≡ someLeft flags k n
 unfolding someLeft

@@ -66,7 +66,7 @@ pub file-type : (s : Sums) (r : List ℕ) → typeOf (refilled (fileControlFrom 
 unfolding joined
 file-type s r = refl
 
-header-long : (line : Line) (h text : List ℕ) → length h ≡ 94 → length text ≡ 94 → length (nextHeader h line text) ≡ 94
+pub header-long : (line : Line) (h text : List ℕ) → length h ≡ 94 → length text ≡ 94 → length (nextHeader h line text) ≡ 94
 header-long Line.FileHeader h text l m = l
 header-long Line.BatchHeader h text l m = length-columns 1 94 text (lit≤ tt) (omega arith)
 header-long Line.Entry h text l m = l
@@ -78,17 +78,17 @@ header-long Line.Past h text l m = l
 header-long Line.Other h text l m = l
 
 module _ (way : Way) where
-  columns-long : (r : List ℕ) → length r ≡ recordBytes way → length (take 94 r) ≡ 94
+  pub columns-long : (r : List ℕ) → length r ≡ recordBytes way → length (take 94 r) ≡ 94
   columns-long r l = simp length-take (omega (arith, l))
 
-  refilled-long : (text r : List ℕ) → length text ≡ 94 → length r ≡ recordBytes way → length (refilled text r) ≡ recordBytes way
+  pub refilled-long : (text r : List ℕ) → length text ≡ 94 → length r ≡ recordBytes way → length (refilled text r) ≡ recordBytes way
   refilled-long text r m l = simp (length-append, length-drop) (omega (arith, m, l))
 
-  fillers-long : (n : ℕ) → AllLong (recordBytes way) (replicate n (closedBy way fillerRecord))
+  pub fillers-long : (n : ℕ) → AllLong (recordBytes way) (replicate n (closedBy way fillerRecord))
   fillers-long zero = tt
   fillers-long (suc n) = (length-append fillerRecord (endOf way), fillers-long n)
 
-  record-long : (s : Sums) (h r : List ℕ) (t : Bool) → length h ≡ 94 → length r ≡ recordBytes way → length (pick t (refilled (batchControlFrom s h) r) r) ≡ recordBytes way
+  pub record-long : (s : Sums) (h r : List ℕ) (t : Bool) → length h ≡ 94 → length r ≡ recordBytes way → length (pick t (refilled (batchControlFrom s h) r) r) ≡ recordBytes way
   record-long s h r true l m = refilled-long (batchControlFrom s h) r (batch-long s h l) m
   record-long s h r false l m = m
 

@@ -5,3 +5,8 @@ pub mod Numbers
 pub mod Running
 pub mod Together
 pub mod Granted
+pub mod Says
+pub mod Changes
+pub mod Places
+pub mod Complete
+pub mod Fillers

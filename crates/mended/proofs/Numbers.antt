@@ -18,11 +18,11 @@ use Rattle.mending.specs.Mending.{typeOf, sumsPast, headerPast, refilled, mende
 use Rattle.mended.proofs.Again.{by-test, raw-mended, mended-type, at-nine, at-other, nine-again, other-again}
 
 -- how many records stand before the 9: none, or one more than behind this one
-nine-here : (last : ℕ) (r : List ℕ) (rs : List (List ℕ)) → endsFile last r ≡ true → beforeNine last (r ∷ rs) ≡ 0
+pub nine-here : (last : ℕ) (r : List ℕ) (rs : List (List ℕ)) → endsFile last r ≡ true → beforeNine last (r ∷ rs) ≡ 0
 unfolding beforeNine
 nine-here last r rs e = rw e
 
-nine-later : (last : ℕ) (r : List ℕ) (rs : List (List ℕ)) → endsFile last r ≡ false → beforeNine last (r ∷ rs) ≡ 1 + beforeNine (typeOf r) rs
+pub nine-later : (last : ℕ) (r : List ℕ) (rs : List (List ℕ)) → endsFile last r ≡ false → beforeNine last (r ∷ rs) ≡ 1 + beforeNine (typeOf r) rs
 unfolding beforeNine
 nine-later last r rs e = rw e
 

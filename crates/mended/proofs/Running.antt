@@ -37,11 +37,11 @@ module _ (way : Way) where
   unfolding mendedFrom
   mended-none last s h = refl
 
-  nine-length : (last : ℕ) (s : Sums) (h r : List ℕ) (rs : List (List ℕ)) → endsFile last r ≡ true
+  pub nine-length : (last : ℕ) (s : Sums) (h r : List ℕ) (rs : List (List ℕ)) → endsFile last r ≡ true
       → length (mendedFrom way last s h (r ∷ rs)) ≡ suc (fillersAfter (s .records + 1))
   nine-length last s h r rs e = ap length (at-nine way last s h r rs e) ∙ ap suc (length-replicate (fillersAfter (s .records + 1)) (closedBy way fillerRecord))
 
-  other-length : (last : ℕ) (s : Sums) (h r : List ℕ) (rs : List (List ℕ)) → endsFile last r ≡ false
+  pub other-length : (last : ℕ) (s : Sums) (h r : List ℕ) (rs : List (List ℕ)) → endsFile last r ≡ false
       → length (mendedFrom way last s h (r ∷ rs)) ≡ suc (length (mendedFrom way (typeOf r) (sumsPast s r) (headerPast h r) rs))
   other-length last s h r rs e = ap length (at-other way last s h r rs e)
 

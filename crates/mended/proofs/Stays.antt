@@ -45,7 +45,7 @@ module _ (way : Way) where
       (pick (eqb b 56 && ltb 0 (s .batches)) (refilled (batchControlFrom s h) r) r
       ∷ mendedFrom way b (nextSums s (lineBy b) text) (nextHeader h (lineBy b) text) rs)
 
-  closed-type : (r : List ℕ) → length r ≡ 94 → typeOf (closedBy way r) ≡ typeOf r
+  pub closed-type : (r : List ℕ) → length r ≡ 94 → typeOf (closedBy way r) ≡ typeOf r
   closed-type [] l = absurd (omega arith)
   closed-type (x ∷ xs) l = refl
 
@@ -140,7 +140,7 @@ module _ (way : Way) where
       (first-stays 49 (addRecord noSums) (start .header) (v .batches) end n (l .each) (end-stays v))
 
   -- the records of an accepted file
-  raw-accepted : (f : List ℕ) → checkedOf way f .answer ≡ Answer.Granted → rawRecords way f ≡ map (closedBy way) (recordsOf (viewOf way f))
+  pub raw-accepted : (f : List ℕ) → checkedOf way f .answer ≡ Answer.Granted → rawRecords way f ≡ map (closedBy way) (recordsOf (viewOf way f))
   raw-accepted f e =
       let p = accepted-view way f e in
       let v = viewOf way f in
@@ -160,14 +160,14 @@ module _ (way : Way) where
 -- ---- the changes
 
 -- a record has no change to itself
-fields-same : (n k : ℕ) (table : List Row) (r : List ℕ) → fieldChanges n k table r r ≡ []
+pub fields-same : (n k : ℕ) (table : List Row) (r : List ℕ) → fieldChanges n k table r r ≡ []
 unfolding fieldChanges
 fields-same n k [] r = refl
 fields-same n k (row ∷ table) r =
     let text = columns (row .first) (row .last) r in
     rw (same-equal text text .1 refl) (fields-same n (k + 1) table r)
 
-either-none : (t : Bool) (rows : List (List ℕ)) → rows ≡ [] → pick t rows [] ≡ []
+pub either-none : (t : Bool) (rows : List (List ℕ)) → rows ≡ [] → pick t rows [] ≡ []
 either-none true rows e = e
 either-none false rows e = refl
 

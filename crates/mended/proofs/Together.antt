@@ -96,11 +96,11 @@ agree Place.FileDone n b r o k = never (sym o)
 
 -- ---- a record that passes
 
-failed-not : {A : Type 0} (fault : Fault) (k : ℕ) → Verdict.Failed fault k ≡ Verdict.Passed → A
+pub failed-not : {A : Type 0} (fault : Fault) (k : ℕ) → Verdict.Failed fault k ≡ Verdict.Passed → A
 failed-not fault k e = absurd (let z : _≡_ {A = ℕ} 0 1 = cc in omega arith)
 
 -- its fields passed, and the check went on
-step-passed : (b : Bool) (v : Verdict) (next st : State) → stepped (closing b v) next st .verdict ≡ Verdict.Passed → (v ≡ Verdict.Passed) × (stepped (closing b v) next st .state ≡ next)
+pub step-passed : (b : Bool) (v : Verdict) (next st : State) → stepped (closing b v) next st .verdict ≡ Verdict.Passed → (v ≡ Verdict.Passed) × (stepped (closing b v) next st .state ≡ next)
 step-passed true Verdict.Passed next st e = (refl, refl)
 step-passed true (Verdict.Failed fault k) next st e = failed-not fault k e
 step-passed false Verdict.Passed next st e = failed-not Fault.LineEnd 0 e
@@ -111,7 +111,7 @@ line-known : (line : Line) (s : Sums) (h c : List ℕ) → fieldsFrom (firstFiel
 line-known line s h c e o =
     not-right (passed-right 1 (rowsOf Line.Other) s h c (subst (λ l. fieldsFrom (firstField l) (rowsOf l) s h c ≡ Verdict.Passed) o e) .0)
 
-columns-type : (r : List ℕ) → typeOf (take 94 r) ≡ typeOf r
+pub columns-type : (r : List ℕ) → typeOf (take 94 r) ≡ typeOf r
 columns-type [] = refl
 columns-type (x ∷ xs) = refl
 

@@ -6,6 +6,7 @@ use mathlib.Core.List.{List, [], _∷_, _++_}
 use lib.Dec.{eqb}
 use lib.ListN.{getD, replicate}
 use Rattle.text.specs.Decimal.{pick}
+use Rattle.bits.specs.Flags.{flagAt}
 use Rattle.layout.specs.Fields.{recordColumns}
 use Rattle.near.specs.declared.Sums.{Sums}
 use Rattle.tally.specs.Tally.{noSums, addRecord, addBatch, addEntry, addAddendum}
@@ -16,7 +17,7 @@ use Rattle.moving.specs.declared.Walk.{Walk}
 
 -- entry k goes: its flag is set
 abbrev pub gone : List ℕ → ℕ → Bool
-gone flags k = eqb (getD flags k 0) 1
+gone flags k = flagAt flags k
 
 -- a record before the file control, by its first byte
 abbrev pub sortOf : ℕ → Sort

@@ -102,11 +102,11 @@ fn keep_entry(way: Way, file: &mut [u8], w: Walk, rec: &[u8]) -> Walk
 
 // An entry stays where its flag is not set.
 fn pass_entry(way: Way, file: &mut [u8], w: Walk, flags: &[u8], rec: &[u8]) -> Walk
-    requires { ⌜ Room way (now file) (w .sums) (waiting w) × (length (w .header) ≡ 94) × (length (now rec) ≡ 94) × (w .entries + 1 < length (now flags)) × (length (now flags) ≡ 1000000) ⌝ }
+    requires { ⌜ Room way (now file) (w .sums) (waiting w) × (length (w .header) ≡ 94) × (length (now rec) ≡ 94) × (w .entries + 1 < 1000000) × (length (now flags) ≡ 125000) ⌝ }
     ensures { λ r. ⌜ Passed way (now (file .entry)) w (entryGives (now (flags .entry)) w (now (rec .entry))) (entryNext (now (flags .entry)) w (now (rec .entry))) r (now (file .exit)) ⌝ }
 {
     let k = w.entries + 1;
-    if flags[k] == 1 {
+    if bits::is_set(flags, k) {
         let mut next = w;
         next.entries = k;
         next.stays = false;
@@ -149,7 +149,7 @@ fn pass_control(way: Way, file: &mut [u8], w: Walk) -> Walk
 
 // One record of the old file. A record 5 waits for the first entry of its batch that stays.
 pub fn pass_record(way: Way, file: &mut [u8], w: Walk, flags: &[u8], rec: [u8; 94]) -> Walk
-    requires { ⌜ Room way (now file) (w .sums) (waiting w) × (length (w .header) ≡ 94) × (length rec ≡ 94) × (w .entries + 1 < length (now flags)) × (length (now flags) ≡ 1000000) ⌝ }
+    requires { ⌜ Room way (now file) (w .sums) (waiting w) × (length (w .header) ≡ 94) × (length rec ≡ 94) × (w .entries + 1 < 1000000) × (length (now flags) ≡ 125000) ⌝ }
     ensures { λ r. ⌜ Passed way (now (file .entry)) w (givesOf (now (flags .entry)) w rec) (nextOf (now (flags .entry)) w rec) r (now (file .exit)) ⌝ }
 {
     let sums = w.sums;

@@ -1,6 +1,6 @@
 -- What taking out answers, test by test, and what it gives and leaves for each answer.
 -- Assumes nothing.
-use Prim.Native.Nat.{ℕ, zero, suc, _+_, _-_, _*_, _≤_, _<_}
+use Prim.Native.Nat.{ℕ, _+_, _-_, _*_, _≤_, _<_}
 use native.Mathlib.Nat.{sub-zero}
 use native.Mathlib.Omega.{arith}
 use mathlib.Core.Path.{_≡_, refl, sym, ap, ap₂, _∙_}
@@ -8,7 +8,7 @@ use mathlib.Core.Bool.{true, false}
 use mathlib.Core.List.{List, [], _++_, map}
 use borrow.Author.Tests.{le-leb, lt-leb}
 use lib.Dec.{leb}
-use lib.ListN.{length, take, drop, getD, replicate, length-append, length-replicate}
+use lib.ListN.{length, take, drop, replicate, length-append, length-replicate}
 use lib.Seq.{take-append-seam}
 use Rattle.text.specs.Rows.{joined}
 use Rattle.layout.specs.declared.Answer.{Answer}
@@ -25,6 +25,7 @@ use Rattle.bridge.proofs.Bridge.{accepted-gives}
 use Rattle.funds.specs.Funds.{rowsOf, inFront}
 use Rattle.funds.specs.Outcome.{Listed}
 use Rattle.funds.proofs.RowLaws.{rows-long}
+use Rattle.bits.proofs.BitLaws.{no-flag}
 use Rattle.without.specs.Without.{named, allExist, without, takeOutAnswer, takeOutOf}
 use Rattle.without.proofs.TakenOut.{Removable, take-out-exactly, told, result-accepted, result-view}
 use Rattle.moving.specs.Walk.{gone}
@@ -33,14 +34,8 @@ use Rattle.recalling.specs.Ready.{AcceptedAs, Clear}
 use Rattle.recalling.proofs.LeftLaws.{left-whole}
 use Rattle.closing.proofs.CloseLaws.{old-few}
 
--- no flag is set, however many there are
-no-flags : (n k : ℕ) → _≡_ {A = ℕ} (getD (replicate n 0) k 0) 0
-no-flags zero k = refl
-no-flags (suc n) zero = refl
-no-flags (suc n) (suc k) = no-flags n k
-
-pub all-clear : Clear (replicate 1000000 0)
-all-clear = record { long = length-replicate {0} {A = ℕ} 1000000 0; unset = no-flags 1000000 }
+pub all-clear : Clear (replicate 125000 0)
+all-clear = record { long = length-replicate {0} {A = ℕ} 125000 0; unset = no-flag 125000 }
 
 -- ---- what the check gave
 

@@ -1,12 +1,14 @@
 -- What the code relies on behind the check of a file, and no rule of the paper.
 use Prim.Native.Nat.{ℕ}
 use mathlib.Core.Path.{_≡_}
+use mathlib.Core.Bool.{false}
 use mathlib.Core.List.{List}
-use lib.ListN.{length, getD}
+use lib.ListN.{length}
 use Rattle.layout.specs.declared.Answer.{Answer}
 use Rattle.layout.specs.declared.Checked.{Checked}
 use Rattle.layout.specs.declared.Way.{Way}
 use Rattle.records.specs.Run.{checkedOf}
+use Rattle.moving.specs.Walk.{gone}
 
 -- the file is accepted, and this is what its check gave
 pub record AcceptedAs (way : Way) (f : List ℕ) (checked : Checked) : Type 0 where
@@ -15,5 +17,5 @@ pub record AcceptedAs (way : Way) (f : List ℕ) (checked : Checked) : Type 0 wh
 
 -- a flag for each entry number that a file can have, none of them set
 pub record Clear (flags : List ℕ) : Type 0 where
-  pub long : length flags ≡ 1000000
-  pub unset : (k : ℕ) → getD flags k 0 ≡ 0
+  pub long : length flags ≡ 125000
+  pub unset : (k : ℕ) → gone flags k ≡ false

@@ -17,13 +17,13 @@ pub struct Kept {
 
 // A batch stays with its first entry that does.
 fn count_entry(kept: Kept, flags: &[u8]) -> Kept
-    requires { ⌜ (kept .entries + 1 < length (now flags)) × (length (now flags) ≡ 1000000) × (kept .batches < 1000000) ⌝ }
+    requires { ⌜ (kept .entries + 1 < 1000000) × (length (now flags) ≡ 125000) × (kept .batches < 1000000) ⌝ }
     ensures { λ r. ⌜ r ≡ entryCounted (now (flags .entry)) kept ⌝ }
 {
     let entries = kept.entries + 1;
     let batches = kept.batches;
     let empty = kept.empty;
-    if flags[entries] == 1 {
+    if bits::is_set(flags, entries) {
         return Kept {
             entries,
             empty,
@@ -46,7 +46,7 @@ fn count_entry(kept: Kept, flags: &[u8]) -> Kept
 
 // A record 5 begins a batch of which no entry stays so far.
 fn count_record(kept: Kept, flags: &[u8], first: u8) -> Kept
-    requires { ⌜ (kept .entries + 1 < length (now flags)) × (length (now flags) ≡ 1000000) × (kept .batches < 1000000) ⌝ }
+    requires { ⌜ (kept .entries + 1 < 1000000) × (length (now flags) ≡ 125000) × (kept .batches < 1000000) ⌝ }
     ensures { λ r. ⌜ r ≡ recordCounted (now (flags .entry)) kept first ⌝ }
 {
     if first == 53 {
@@ -64,7 +64,7 @@ fn count_record(kept: Kept, flags: &[u8], first: u8) -> Kept
 
 // Of an accepted file with so many records before its file control.
 pub(crate) fn batches_left(way: Way, file: &[u8], flags: &[u8], count: usize) -> usize
-    requires { ⌜ Walkable way (now file) count × (length (now flags) ≡ 1000000) ⌝ }
+    requires { ⌜ Walkable way (now file) count × (length (now flags) ≡ 125000) ⌝ }
     ensures { λ r. ⌜ (r ≡ countedFrom (now (flags .entry)) (keptSo 0 false 0) (bodyOf (viewOf way (now (file .entry))))) × (r < 1000000) ⌝ }
 {
     let mut kept = Kept {

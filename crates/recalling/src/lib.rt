@@ -34,7 +34,7 @@ fn judge(
     checked: Checked,
 ) -> Answer
     requires { ⌜ AcceptedAs way (now file) checked × Clear (now flags) ⌝ }
-    ensures { λ r. ⌜ (r ≡ takeOutAnswer way (now (file .entry)) (now (entries .entry)) room) × (length (now (flags .exit)) ≡ 1000000) × (r ≡ Answer.Granted → (k : ℕ) → gone (now (flags .exit)) k ≡ named k (now (entries .entry))) ⌝ }
+    ensures { λ r. ⌜ (r ≡ takeOutAnswer way (now (file .entry)) (now (entries .entry)) room) × (length (now (flags .exit)) ≡ 125000) × (r ≡ Answer.Granted → (k : ℕ) → gone (now (flags .exit)) k ≡ named k (now (entries .entry))) ⌝ }
 {
     let count = checked.entries;
     if !marking::mark(flags, entries, count) {
@@ -80,7 +80,7 @@ fn take_listed(
 // Takes the entries of the list out of the file, which then ends earlier; blanks follow up to the end of the lent bytes, and the list of the
 // new file goes to the front of the lent numbers. A refusal leaves both as they are: the file's own comes first, then 25 for a number that is
 // no entry's, 27 where no entry would be left, and 23 where the batches left have no room. A flag for each entry number that a file can have
-// stands on the stack: a million bytes.
+// stands on the stack, eight to a byte.
 pub fn take_out(way: Way, file: &mut [u8], entries: &[u64], rows: &mut [u64]) -> Made
     ensures { λ r. ⌜ (r ≡ takeOutOf way (now (file .entry)) (now (entries .entry)) (now (rows .entry)) .gives) × (now (file .exit) ≡ takeOutOf way (now (file .entry)) (now (entries .entry)) (now (rows .entry)) .leaves) × (now (rows .exit) ≡ takeOutOf way (now (file .entry)) (now (entries .entry)) (now (rows .entry)) .rows) ⌝ }
 {
@@ -92,6 +92,6 @@ pub fn take_out(way: Way, file: &mut [u8], entries: &[u64], rows: &mut [u64]) ->
             length: 0,
         };
     }
-    let mut flags = [0u8; 1_000_000];
+    let mut flags = [0u8; 125_000];
     take_listed(way, file, entries, rows, &mut flags, checked)
 }

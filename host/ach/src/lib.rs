@@ -270,7 +270,7 @@ pub fn alter(
 /// The result is the file of the pay table without those rows; traces and batch numbers stay. The
 /// numbers may stand in any order, and repeats count once. At least one entry has to be left.
 ///
-/// It keeps a million bytes on the stack: the calling thread needs more than that.
+/// It needs 140,000 bytes of stack, for a bit for each entry that a file can have.
 ///
 /// ```
 /// use ach::Way;

@@ -1,14 +1,16 @@
 use Rattle.marking.proofs.MarkLaws.{some-found, some-further, some-none}
 use Rattle.moving.specs.Walk.{someLeft}
+use borrow.Author.Tests.{not-true, not-false}
 use mathlib.Core.Path.{_≡_}
 use native.Mathlib.Omega.{arith}
 use Prim.Native.Nat.{_+_, _-_, _≤_, _<_}
-use mathlib.Core.Path.{refl, _∙_}
+use mathlib.Core.Path.{refl, sym, _∙_}
 use borrow.Author.Needs.{needs}
 use Rattle.marking.proofs.any_left.Statement.{statement}
 use Rattle.marking.proofs.any_left.Tie as tie
 use Rattle.marking.proofs.any_left.Reads as reads
 use Rattle.marking.proofs.any_left.Lts as lts
+use Rattle.bits.proofs.is_set.Reads as is-set-reads
 
 abbrev Inv-loop : tie.InvT-loop
 Inv-loop flags count k₀ left₀ k left = (k + left ≡ count + 1) × (someLeft flags k left ≡ someLeft flags 1 count)
@@ -16,37 +18,37 @@ Inv-loop flags count k₀ left₀ k left = (k + left ≡ count + 1) × (someLeft
 abbrev μ-loop : tie.MeasureT-loop
 μ-loop flags count k₀ left₀ k left = left
 
--- src/marks.rt:37:5
+-- src/lib.rt:37:5
 loop-holds : tie.Need-loop-holds Inv-loop μ-loop
 loop-holds c = (omega arith, refl)
 
--- src/marks.rt:38:12
-shared-slice-read-if1 : tie.Need-shared-slice-read-if1 Inv-loop μ-loop
-shared-slice-read-if1 c = search needs
+-- src/lib.rt:38:13
+is-set-requires : tie.Need-is-set-requires Inv-loop μ-loop
+is-set-requires c κs = search needs
 
--- src/marks.rt:39:13
+-- src/lib.rt:39:13
 returns : tie.Need-returns Inv-loop μ-loop
-returns c = some-found ((c .before .before .before .before .args) .flags .now) ((c .before .before .before .loop) .k) ((c .before .before .before .loop) .left) ((c .before .before .loop-test) .taken) ((c .if1) .taken) ∙ (c .before .before .before .loop) .inv .1
+returns c = some-found ((c .before .before .before .before .before .args) .flags .now) ((c .before .before .before .loop) .k) ((c .before .before .before .loop) .left) ((c .before .before .loop-test) .taken) (sym ((c .before .is-set) .ensures) ∙ not-true _ ((c .if1) .taken)) ∙ (c .before .before .before .loop) .inv .1
 
--- src/marks.rt:41:9
+-- src/lib.rt:41:9
 add-k : tie.Need-add-k Inv-loop μ-loop
 add-k c = search needs
 
--- src/marks.rt:42:9
+-- src/lib.rt:42:9
 sub-left : tie.Need-sub-left Inv-loop μ-loop
 sub-left c = search needs
 
--- src/marks.rt:37:5
+-- src/lib.rt:37:5
 loop-less : tie.Need-loop-less Inv-loop μ-loop
 loop-less c = search needs
 
--- src/marks.rt:37:5
+-- src/lib.rt:37:5
 loop-again : tie.Need-loop-again Inv-loop μ-loop
-loop-again c = (omega (arith, (c .before .before .before .loop) .inv .0, (c .before .before .loop-test) .taken), some-further ((c .before .before .before .before .args) .flags .now) ((c .before .before .before .loop) .k) ((c .before .before .before .loop) .left) ((c .before .before .loop-test) .taken) ((c .if1) .left) ∙ (c .before .before .before .loop) .inv .1)
+loop-again c = (omega (arith, (c .before .before .before .loop) .inv .0, (c .before .before .loop-test) .taken), some-further ((c .before .before .before .before .before .args) .flags .now) ((c .before .before .before .loop) .k) ((c .before .before .before .loop) .left) ((c .before .before .loop-test) .taken) (sym ((c .before .is-set) .ensures) ∙ not-false _ ((c .if1) .left)) ∙ (c .before .before .before .loop) .inv .1)
 
--- src/marks.rt:31:1
+-- src/lib.rt:31:1
 returns-2 : tie.Need-returns-2 Inv-loop μ-loop
-returns-2 c = some-none ((c .before .before .args) .flags .now) ((c .before .loop) .k) ((c .before .loop) .left) ((c .loop-test) .left) ∙ (c .before .loop) .inv .1
+returns-2 c = some-none ((c .before .before .before .args) .flags .now) ((c .before .loop) .k) ((c .before .loop) .left) ((c .loop-test) .left) ∙ (c .before .loop) .inv .1
 
 pub any-left-spec : {M : Type 1} → statement M
 any-left-spec =
@@ -55,7 +57,7 @@ any-left-spec =
     Inv-loop
     μ-loop
     loop-holds
-    shared-slice-read-if1
+    is-set-requires
     returns
     add-k
     sub-left

@@ -1,6 +1,6 @@
 use Rattle.marking.proofs.MarkLaws.{Marking, marking-first, bad-zero, bad-past, marking-on, all-there, all-marked}
 use Rattle.bridge.proofs.BridgeFields.{never}
-use lib.ListN.{length, getD}
+use lib.ListN.{length}
 use mathlib.Core.Path.{_≡_}
 use native.Mathlib.Omega.{arith}
 use Prim.Native.Nat.{_-_, _≤_, _<_}
@@ -10,6 +10,7 @@ use Rattle.marking.proofs.mark.Statement.{statement}
 use Rattle.marking.proofs.mark.Tie as tie
 use Rattle.marking.proofs.mark.Reads as reads
 use Rattle.marking.proofs.mark.Lts as lts
+use Rattle.bits.proofs.set.Reads as set-reads
 
 abbrev Inv-loop : tie.InvT-loop
 Inv-loop flags₀ numbers count i₀ flags i = Marking numbers count flags i
@@ -17,55 +18,55 @@ Inv-loop flags₀ numbers count i₀ flags i = Marking numbers count flags i
 abbrev μ-loop : tie.MeasureT-loop
 μ-loop flags₀ numbers count i₀ flags i = length numbers - i
 
--- src/marks.rt:16:5
+-- src/lib.rt:16:5
 loop-holds : tie.Need-loop-holds Inv-loop μ-loop
-loop-holds c = marking-first _ _ _ ((c .pre) .0) ((c .pre) .2)
+loop-holds c = marking-first _ _ _ ((c .before .before .pre) .0) ((c .before .before .pre) .2)
 
--- src/marks.rt:17:17
+-- src/lib.rt:17:17
 mul-n : tie.Need-mul-n Inv-loop μ-loop
 mul-n c = search needs
 
--- src/marks.rt:17:17
+-- src/lib.rt:17:17
 shared-slice-read-n : tie.Need-shared-slice-read-n Inv-loop μ-loop
 shared-slice-read-n c = search needs
 
--- src/marks.rt:19:13
+-- src/lib.rt:19:13
 same-length : tie.Need-same-length Inv-loop μ-loop
-same-length c = (c .before .before .before .loop) .inv .long ∙ sym ((c .before .before .before .before .pre) .0)
+same-length c = (c .before .before .before .loop) .inv .long ∙ sym ((c .before .before .before .before .before .before .pre) .0)
 
--- src/marks.rt:19:13
+-- src/lib.rt:19:13
 returns : tie.Need-returns Inv-loop μ-loop
 returns c = ((c .before .before .before .loop) .inv .long, bad-zero ((c .before .before .before .loop) .inv) ((c .before .before .loop-test) .taken) ((c .if1) .taken), λ e. never e)
 
--- src/marks.rt:22:13
+-- src/lib.rt:22:13
 same-length-2 : tie.Need-same-length-2 Inv-loop μ-loop
-same-length-2 c = (c .before .before .before .before .loop) .inv .long ∙ sym ((c .before .before .before .before .before .pre) .0)
+same-length-2 c = (c .before .before .before .before .loop) .inv .long ∙ sym ((c .before .before .before .before .before .before .before .pre) .0)
 
--- src/marks.rt:22:13
+-- src/lib.rt:22:13
 returns-2 : tie.Need-returns-2 Inv-loop μ-loop
 returns-2 c = ((c .before .before .before .before .loop) .inv .long, bad-past ((c .before .before .before .before .loop) .inv) ((c .before .before .before .loop-test) .taken) ((c .if2) .taken) ((c .before .if1) .left), λ e. never e)
 
--- src/marks.rt:24:9
-slice-write-flags : tie.Need-slice-write-flags Inv-loop μ-loop
-slice-write-flags c = omega (arith, (c .before .before .before .before .loop) .inv .long, (c .if2) .left, (c .before .before .before .before .before .pre) .1)
+-- src/lib.rt:24:9
+set-requires : tie.Need-set-requires Inv-loop μ-loop
+set-requires c κs = omega (arith, (c .before .before .before .before .before .loop) .inv .long, (c .before .if2) .left, (c .before .before .before .before .before .before .before .before .pre) .1)
 
--- src/marks.rt:25:9
+-- src/lib.rt:25:9
 add-i : tie.Need-add-i Inv-loop μ-loop
 add-i c = search needs
 
--- src/marks.rt:16:5
+-- src/lib.rt:16:5
 loop-less : tie.Need-loop-less Inv-loop μ-loop
 loop-less c = search needs
 
--- src/marks.rt:16:5
+-- src/lib.rt:16:5
 loop-again : tie.Need-loop-again Inv-loop μ-loop
-loop-again c = marking-on ((c .before .before .before .before .loop) .inv) ((c .before .before .before .loop-test) .taken) ((c .before .if1) .left) ((c .if2) .left) ((c .before .before .before .before .before .pre) .1)
+loop-again c = marking-on ((c .before .before .before .before .before .before .before .before .loop) .inv) ((c .before .before .before .before .before .before .before .loop-test) .taken) ((c .before .before .before .before .before .if1) .left) ((c .before .before .before .before .if2) .left) _ ((c .before .before .set) .ensures .0) ((c .before .before .set) .ensures .1)
 
--- src/marks.rt:11:1
+-- src/lib.rt:11:1
 same-length-3 : tie.Need-same-length-3 Inv-loop μ-loop
-same-length-3 c = (c .before .loop) .inv .long ∙ sym ((c .before .before .pre) .0)
+same-length-3 c = (c .before .loop) .inv .long ∙ sym ((c .before .before .before .before .pre) .0)
 
--- src/marks.rt:11:1
+-- src/lib.rt:11:1
 returns-3 : tie.Need-returns-3 Inv-loop μ-loop
 returns-3 c = ((c .before .loop) .inv .long, all-there ((c .before .loop) .inv) ((c .loop-test) .left), λ e. all-marked ((c .before .loop) .inv) ((c .loop-test) .left))
 
@@ -82,7 +83,7 @@ mark-spec =
     returns
     same-length-2
     returns-2
-    slice-write-flags
+    set-requires
     add-i
     loop-less
     loop-again

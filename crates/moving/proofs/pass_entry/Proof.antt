@@ -1,4 +1,3 @@
-use borrow.Author.Tests.{eq-eqb, ne-eqb}
 use Rattle.moving.proofs.PutLaws.{put-none}
 use mathlib.Core.Path.{refl}
 use borrow.Author.Needs.{needs}
@@ -6,33 +5,33 @@ use Rattle.moving.proofs.pass_entry.Statement.{statement}
 use Rattle.moving.proofs.pass_entry.Tie as tie
 use Rattle.moving.proofs.pass_entry.Reads as reads
 use Rattle.moving.proofs.pass_entry.Lts as lts
+use Rattle.bits.proofs.is_set.Reads as is-set-reads
 use Rattle.moving.proofs.keep_entry.Reads as keep-entry-reads
 
--- src/lib.rt:111:13
+-- src/lib.rt:108:13
 add-k : tie.Need-add-k
 add-k c = search needs
 
--- src/lib.rt:112:8
-shared-slice-read-if1 : tie.Need-shared-slice-read-if1
-shared-slice-read-if1 c = search needs
+-- src/lib.rt:109:8
+is-set-requires : tie.Need-is-set-requires
+is-set-requires c κs = search needs
 
--- src/lib.rt:84:9
+-- src/lib.rt:113:9
 returns : tie.Need-returns
-returns c = rw (eq-eqb _ 1 ((c .if1) .taken)) (record { known = refl; put = put-none ((c .before .before .before .before .before .before .args) .way) ((c .before .before .before .before .before .before .args) .file .now) ((c .before .before .before .before .before .before .args) .w .sums .records); small = (c .before .before .before .before .before .before .pre) .0 .small })
+returns c = rw (← (c .before .is-set) .ensures, (c .if1) .taken) (record { known = refl; put = put-none ((c .before .before .before .before .before .before .args) .way) ((c .before .before .before .before .before .before .args) .file .now) ((c .before .before .before .before .before .before .args) .w .sums .records); small = (c .before .before .before .before .before .before .pre) .0 .small })
 
--- src/lib.rt:118:5
+-- src/lib.rt:115:5
 keep-entry-requires : tie.Need-keep-entry-requires
 keep-entry-requires c κs = search needs
 
--- src/lib.rt:107:1
+-- src/lib.rt:104:1
 same-length : tie.Need-same-length
 same-length c = search needs
 
--- src/lib.rt:107:1
+-- src/lib.rt:104:1
 returns-2 : tie.Need-returns-2
-returns-2 c = rw (ne-eqb _ 1 ((c .before .before .before .before .if1) .left)) ((c .before .before .keep-entry) .ensures)
+returns-2 c = rw (← (c .before .before .before .before .before .is-set) .ensures, (c .before .before .before .before .if1) .left) ((c .before .before .keep-entry) .ensures)
 
 pub pass-entry-spec : {M : Type 1} → statement M
 pass-entry-spec =
-    tie.close
-    (tie.spec add-k shared-slice-read-if1 returns keep-entry-requires same-length returns-2)
+    tie.close (tie.spec add-k is-set-requires returns keep-entry-requires same-length returns-2)

@@ -32,7 +32,7 @@ enum-told c = search needs
 
 -- src/lib.rt:98:43
 slice-aggregate-take-listed : tie.Need-slice-aggregate-take-listed
-slice-aggregate-take-listed c = sym (length-replicate {0} {A = ℕ} 1000000 0)
+slice-aggregate-take-listed c = sym (length-replicate {0} {A = ℕ} 125000 0)
 
 -- src/lib.rt:98:5
 take-listed-requires : tie.Need-take-listed-requires
