@@ -234,8 +234,9 @@ class Library {
 
     /** The file with controls and fillers as its other records call for, and the list of changes (include/ach.h). */
     mend(way, file) {
-        // Nine fillers at most are added. A batch has three records, of which the control's changes take 276 bytes at most.
-        const [mended, changes] = [room(Uint8Array, file.length + 9 * 96), room(Uint8Array, file.length + 300)];
+        const block = 10 * (way === LINED ? 96 : 94);
+        const mended = room(Uint8Array, Math.ceil(file.length / block) * block);
+        const changes = room(Uint8Array, file.length + 78);
         const [length, changesLength] = [numbers(BigUint64Array, 1), numbers(BigUint64Array, 1)];
         const parts = [wayWord(way), bytes(file), mended, length, changes, changesLength];
         return this.#ask('ach_mend', parts, () => {

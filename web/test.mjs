@@ -173,6 +173,27 @@ function manyLines(fileRow, batchRow) {
     expect('memory', 'grows for a long list and no further', `${grown > before} ${ach.memoryLength}`, `true ${grown}`);
 }
 
+/** What becomes of each refused file: a sample and the changes, or what is left to refuse. An accepted file stays as it is. */
+function mendings() {
+    for (const [name, due] of linesOf('samples/index-mended').map(split)) {
+        const [way, file] = [name.endsWith('-lined.ach') ? LINED : PLAIN, bytesOf(`samples/${name}`)];
+        const sample = due.match(/^OK (\S+)/)?.[1];
+        const asked = () => {
+            const mended = ach.mend(way, file);
+            const isSample = sample !== undefined && hex(mended.file) === hex(bytesOf(`samples/${sample}`));
+            return [isSample ? sample : 'another file', Buffer.from(mended.changes)];
+        };
+        expect('mend', name, lineOf(asked), due);
+    }
+    for (const [name] of linesOf('samples/index').map(split).filter(([, due]) => due.startsWith('OK'))) {
+        const file = bytesOf(`samples/${name}`);
+        for (const [way, lent] of [[PLAIN, file], [LINED, lined(file)]]) {
+            const mended = ach.mend(way, lent);
+            expect('mend', name, `${hex(mended.file)} ${Buffer.from(mended.changes)}`, `${hex(lent)} ${'0'.repeat(21)}`);
+        }
+    }
+}
+
 /** The recall that the sample is of. */
 function recall() {
     const left = ach.takeOut(PLAIN, bytesOf('samples/gaps.ach'), BigUint64Array.of(6n, 2n, 3n, 5n, 2n));
@@ -222,6 +243,8 @@ function mistakes() {
 samples();
 limits();
 lists();
+if (existsSync(new URL('samples/index-mended', top))) mendings();
+else console.log('wasm: mend is not tried, as there is no samples/index-mended');
 recall();
 vectors(process.argv[2]);
 mistakes();
