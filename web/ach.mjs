@@ -1,15 +1,17 @@
-// Qalarimo ACH in WebAssembly, for node and for a page: the proved module as it is (tools/library wasm), and this loader, which
-// lends it memory. No dependency.
+// Qalarimo ACH in WebAssembly, for node and for a page: the proved module as it is (tools/library
+// wasm), and this loader, which lends it memory. No dependency.
 //
 //     import { load, PLAIN, Refusal } from './ach.mjs';
-//     const ach = await load(new URL('ach.wasm', import.meta.url)); // or a path in node, or the module's bytes
+//     const ach = await load(new URL('ach.wasm', import.meta.url)); // or a path, or the bytes
 //     const { credit, rows } = ach.check(PLAIN, file);
 //
-// Files, tables and lists are Uint8Arrays. What is passed is never changed; what is given back is the caller's own. Counts, records and
-// fields are numbers; cents are BigInts, and so are rows, as a BigUint64Array. Where a number is asked for, a BigInt will do as well.
+// Files, tables and lists are Uint8Arrays. What is passed is never changed; what is given back is
+// the caller's own. Counts, records and fields are numbers; cents are BigInts, and so are rows, as
+// a BigUint64Array. Where a number is asked for, a BigInt will do as well.
 //
-// A refusal is thrown, as a Refusal with number, record and field (include/ach.h lists them), so that none goes unseen. Anything else
-// that is thrown is a mistake of the caller (TypeError, RangeError) or a lack of memory.
+// A refusal is thrown, as a Refusal with number, record and field (include/ach.h lists them), so
+// that none goes unseen. Anything else that is thrown is a mistake of the caller (TypeError,
+// RangeError) or a lack of memory.
 
 /** Records of 94 bytes, back to back. */
 export const PLAIN = 0;
@@ -21,10 +23,11 @@ const MOST_LINES = 999_999;
 const CODES = [22, 23, 24, 27, 28, 29, 32, 33, 34, 37, 38, 39];
 const PAGE = 65_536;
 
-/** Why something is refused, and where: record and field count from 1, and are 0 where there is no place to name. */
+/** Why something is refused, and where: record and field, from 1, or 0 where no place is named. */
 export class Refusal extends Error {
     constructor(answer) {
-        const [number, field, record] = [answer & 0xffn, (answer >> 8n) & 0xffn, answer >> 16n].map(Number);
+        const parts = [answer & 0xffn, answer >> 16n, (answer >> 8n) & 0xffn];
+        const [number, record, field] = parts.map(Number);
         super(`refused, number ${number}, record ${record}, field ${field}`);
         this.name = 'Refusal';
         Object.assign(this, { number, record, field });
@@ -74,17 +77,17 @@ class Piece {
     }
 }
 
-const given = (data) => new Piece(data instanceof BigUint64Array ? BigUint64Array : Uint8Array, data.length, { data });
+const given = (type, data) => new Piece(type, data.length, { data });
 const room = (type, length) => new Piece(type, length);
 const numbers = (type, length) => new Piece(type, length, { counted: false });
 
 const bytes = (value) => {
-    if (value instanceof Uint8Array) return given(value);
+    if (value instanceof Uint8Array) return given(Uint8Array, value);
     throw new TypeError('a Uint8Array is due');
 };
 
 const listed = (value) => {
-    if (value instanceof BigUint64Array) return given(value);
+    if (value instanceof BigUint64Array) return given(BigUint64Array, value);
     throw new TypeError('a BigUint64Array is due, as check gives it');
 };
 
@@ -97,7 +100,7 @@ const wayWord = (way) => {
 const word = (value) => {
     const whole = typeof value === 'bigint' || Number.isSafeInteger(value);
     if (whole && value >= 0 && value < 2n ** 64n) return BigInt(value);
-    throw new RangeError(`a whole number from 0 to 2^64 - 1 is due, and no other: ${String(value)}`);
+    throw new RangeError(`a whole number from 0 to 2^64 - 1 is due, and not ${String(value)}`);
 };
 
 /** The rows in front of a room that held zeros: no row has record 0. */
@@ -123,7 +126,7 @@ class Library {
         return this.#memory.buffer.byteLength;
     }
 
-    /** Gives each piece a place of its own, lets the memory grow to hold them all, and copies. The first byte behind them. */
+    /** Gives each piece a place of its own, in memory that grows to hold them; tells their end. */
     #place(pieces) {
         let end = this.#base;
         for (const piece of pieces) {
@@ -136,13 +139,14 @@ class Library {
         return end;
     }
 
-    /** Calls a function and gives what `result` makes of its answer. What was lent is cleared, so that the next call finds none of it. */
+    /** What `result` makes of a function's answer. What was lent is cleared behind it. */
     #call(name, parts, result) {
         const called = this.#exports[name];
-        if (called === undefined) throw new Error(`this module has no ${name}: it is older than its loader`);
+        if (called === undefined) throw new Error(`this module has no ${name}: build it again`);
         const end = this.#place(parts.filter((part) => part instanceof Piece));
         try {
-            return result(BigInt.asUintN(64, called(...parts.flatMap((part) => part.words ?? [part]))));
+            const words = parts.flatMap((part) => part.words ?? [part]);
+            return result(BigInt.asUintN(64, called(...words)));
         } finally {
             new Uint8Array(this.#memory.buffer, this.#base, end - this.#base).fill(0);
         }
@@ -163,8 +167,12 @@ class Library {
         return this.#ask('ach_check', [wayWord(way), bytes(file), held, rows], () => {
             const all = held.take();
             const [batches, entries, addenda] = Array.from(all.subarray(0, 3), Number);
-            const byCode = CODES.map((code, i) => ({ code, entries: Number(all[5 + 2 * i]), cents: all[6 + 2 * i] }));
-            return { batches, entries, addenda, debit: all[3], credit: all[4], byCode, rows: rows.take(2 * batches) };
+            const [debit, credit] = all.subarray(3, 5);
+            const byCode = CODES.map((code, i) => {
+                return { code, entries: Number(all[5 + 2 * i]), cents: all[6 + 2 * i] };
+            });
+            const list = rows.take(2 * batches);
+            return { batches, entries, addenda, debit, credit, byCode, rows: list };
         });
     }
 
@@ -182,7 +190,8 @@ class Library {
     /** The pay table of a client's list, under a row for the file and one for the batch. */
     importLines(fileRow, batchRow, lines) {
         const most = Math.min(Math.floor((lines.length + 2) / 24), MOST_LINES);
-        return this.#made('ach_import', [bytes(fileRow), bytes(batchRow), bytes(lines)], 204 + 93 * most);
+        const parts = [bytes(fileRow), bytes(batchRow), bytes(lines)];
+        return this.#made('ach_import', parts, 204 + 93 * most);
     }
 
     /** The comma lines of a pay table's entries. */
@@ -196,7 +205,10 @@ class Library {
         return this.#ask(name, [...parts, made, length], () => made.take(length.take()[0]));
     }
 
-    /** The file with a new amount in an entry, its rows, and the new amount less the old. `rows` are the file's as it is passed. */
+    /**
+     * The file with a new amount in an entry, its rows, and the new amount less the old. The rows
+     * that are passed are those of the file that is passed.
+     */
     alter(way, file, rows, entry, amount) {
         const [altered, list, difference] = [bytes(file), listed(rows), numbers(BigInt64Array, 1)];
         const parts = [wayWord(way), altered, list, word(entry), word(amount), difference];
@@ -205,17 +217,20 @@ class Library {
         });
     }
 
-    /** The file without some entries, and its rows. `entries` are their numbers, from 1, in any order. */
+    /** The file without some entries, and its rows. Entries are numbers from 1, in any order. */
     takeOut(way, file, entries) {
         const [left, length] = [bytes(file), numbers(BigUint64Array, 1)];
         const rows = room(BigUint64Array, Math.floor(file.length / 141));
-        const gone = given(BigUint64Array.from(entries, word));
+        const gone = listed(BigUint64Array.from(entries, word));
         return this.#ask('ach_take_out', [wayWord(way), left, gone, rows, length], () => {
             return { file: left.take(length.take()[0]), rows: filled(rows.take()) };
         });
     }
 
-    /** The first row with more credits than the limit: found or not, how many rows up to it or in all, its record and its credits. */
+    /**
+     * The first row with more credits than the limit: whether there is one, how many rows come up to
+     * it and with it, or in all, its record and its credits.
+     */
     runsOut(rows, limit) {
         const answer = numbers(BigUint64Array, 3);
         return this.#call('ach_runs_out', [listed(rows), word(limit), answer], (found) => {
@@ -227,12 +242,13 @@ class Library {
     /** Where the addendum of an entry stands in the file, from 0; 0 and 0 where it has none. */
     addendum(way, file, entry) {
         const [start, length] = [numbers(BigUint64Array, 1), numbers(BigUint64Array, 1)];
-        return this.#ask('ach_addendum', [wayWord(way), bytes(file), word(entry), start, length], () => {
+        const parts = [wayWord(way), bytes(file), word(entry), start, length];
+        return this.#ask('ach_addendum', parts, () => {
             return { start: Number(start.take()[0]), length: Number(length.take()[0]) };
         });
     }
 
-    /** The file with controls and fillers as its other records call for, and the list of changes (include/ach.h). */
+    /** The file with its controls and fillers put right, and the list of changes. */
     mend(way, file) {
         const block = 10 * (way === LINED ? 96 : 94);
         const mended = room(Uint8Array, Math.ceil(file.length / block) * block);
@@ -240,7 +256,8 @@ class Library {
         const [length, changesLength] = [numbers(BigUint64Array, 1), numbers(BigUint64Array, 1)];
         const parts = [wayWord(way), bytes(file), mended, length, changes, changesLength];
         return this.#ask('ach_mend', parts, () => {
-            return { file: mended.take(length.take()[0]), changes: changes.take(changesLength.take()[0]) };
+            const [size, changesSize] = [length.take()[0], changesLength.take()[0]];
+            return { file: mended.take(size), changes: changes.take(changesSize) };
         });
     }
 }

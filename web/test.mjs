@@ -1,8 +1,10 @@
-// Holds the WebAssembly module to every sample and every vector, in both ways where a file has one, and the loader to its word:
+// Holds the WebAssembly module to every sample and every vector, in both ways where a file has one,
+// and the loader to its word:
 //
 //     node web/test.mjs [FOLDER]
 //
-// FOLDER has vectors with line ends, as `cargo run -p vectors -- FOLDER lined` in host leaves them. Ends with status 1 on any difference.
+// FOLDER has vectors with line ends, as `cargo run -p vectors -- FOLDER lined` in host leaves them.
+// Ends with status 1 on any difference.
 import { readFileSync, existsSync } from 'node:fs';
 import { load, Refusal, PLAIN, LINED } from './ach.mjs';
 
@@ -11,6 +13,7 @@ const bytesOf = (name) => new Uint8Array(readFileSync(new URL(name, top)));
 const linesOf = (name) => readFileSync(new URL(name, top), 'utf8').trimEnd().split('\n');
 const ach = await load(new URL('target/wasm/ach.wasm', top));
 
+const mends = existsSync(new URL('samples/index-mended', top));
 const counts = new Map();
 let differences = 0;
 
@@ -22,7 +25,7 @@ function expect(kind, about, got, due) {
     console.error(`${kind}, ${about}: ${got} instead of ${due}`);
 }
 
-const hex = (bytes) => Buffer.from(bytes.buffer, bytes.byteOffset, bytes.byteLength).toString('hex');
+const hex = (data) => Buffer.from(data.buffer, data.byteOffset, data.byteLength).toString('hex');
 
 /** The line of an answer, as `ach --line` prints it. */
 function lineOf(answer) {
@@ -56,7 +59,9 @@ const recordLength = (way) => (way === LINED ? 96 : 94);
 /** Each entry's number and where its record starts. */
 function entriesOf(way, file) {
     const starts = [];
-    for (let at = 0; at < file.length; at += recordLength(way)) if (file[at] === 0x36) starts.push(at);
+    for (let at = 0; at < file.length; at += recordLength(way)) {
+        if (file[at] === 0x36) starts.push(at);
+    }
     return starts.map((start, index) => ({ start, number: index + 1 }));
 }
 
@@ -69,7 +74,7 @@ function everyAddendum(way, file, name) {
     }
 }
 
-/** Each amount one cent off and back again: the file and its rows are what they were. What pays nothing cannot pay. */
+/** Each amount a cent off and back: file and rows are what they were. What pays nothing cannot. */
 function thereAndBack(way, file, name) {
     const { rows } = ach.check(way, file);
     for (const { start, number } of entriesOf(way, file)) {
@@ -82,9 +87,11 @@ function thereAndBack(way, file, name) {
         }
         const step = amount > 1n ? -1n : 1n;
         const off = ach.alter(way, file, rows, number, amount + step);
-        expect('alter', about, `${off.difference} ${hex(off.rows)}`, `${step} ${hex(ach.check(way, off.file).rows)}`);
+        const due = `${step} ${hex(ach.check(way, off.file).rows)}`;
+        expect('alter', about, `${off.difference} ${hex(off.rows)}`, due);
         const back = ach.alter(way, off.file, off.rows, number, amount);
-        expect('alter', about, `${back.difference} ${hex(back.file)} ${hex(back.rows)}`, `${-step} ${hex(file)} ${hex(rows)}`);
+        const said = `${back.difference} ${hex(back.file)} ${hex(back.rows)}`;
+        expect('alter', about, said, `${-step} ${hex(file)} ${hex(rows)}`);
     }
 }
 
@@ -99,7 +106,8 @@ function oneOut(way, file, name) {
         }
         const left = ach.takeOut(way, file, [number, BigInt(number)]);
         const now = ach.check(way, left.file);
-        expect('takeOut', about, `${now.entries} ${hex(left.rows)}`, `${entries - 1} ${hex(now.rows)}`);
+        const due = `${entries - 1} ${hex(now.rows)}`;
+        expect('takeOut', about, `${now.entries} ${hex(left.rows)}`, due);
     }
 }
 
@@ -109,6 +117,7 @@ function accepted(way, file, name) {
     const kept = `samples/${name.replace(/(-lined)?\.ach$/, '.table')}`;
     if (existsSync(new URL(kept, top))) expect('read', name, hex(table), hex(bytesOf(kept)));
     everyAddendum(way, file, name);
+    if (mends) mendedIdly(way, file, name);
     if (file.length > 10_000) return;
     thereAndBack(way, file, name);
     oneOut(way, file, name);
@@ -127,18 +136,24 @@ function bothWays(kind, file, name, due) {
 
 // ---- the samples
 
-const split = (line) => line.split(/ (.*)/s);
+const sample = (name) => bytesOf(`samples/${name}`);
+
+/** Each file that an index names, and what stands behind it. */
+const listedIn = (index) => linesOf(`samples/${index}`).map((line) => line.split(/ (.*)/s));
 
 function samples() {
-    for (const [name, due] of linesOf('samples/index').map(split)) bothWays('samples', bytesOf(`samples/${name}`), name, due);
-    for (const [name, due] of linesOf('samples/index-lined').map(split)) one('samples with line ends', LINED, bytesOf(`samples/${name}`), name, due);
+    for (const [name, due] of listedIn('index')) bothWays('samples', sample(name), name, due);
+    for (const [name, due] of listedIn('index-lined')) {
+        one('samples with line ends', LINED, sample(name), name, due);
+    }
 }
 
 function limits() {
     for (const line of linesOf('samples/index-funds')) {
         const [, name, limit, due] = line.match(/^(\S+) (\S+) (.*)$/);
         const asked = () => {
-            const found = ach.runsOut(ach.check(PLAIN, bytesOf(`samples/${name}`)).rows, BigInt(limit.replace('.', '')));
+            const { rows } = ach.check(PLAIN, sample(name));
+            const found = ach.runsOut(rows, BigInt(limit.replace('.', '')));
             return [found.rows, found.record, found.credit];
         };
         expect('limits', line, lineOf(asked), due);
@@ -146,14 +161,15 @@ function limits() {
 }
 
 function lists() {
-    const [fileRow, batchRow] = ['samples/team.file-row', 'samples/team.batch-row'].map(bytesOf);
-    const imported = (name) => ach.importLines(fileRow, batchRow, bytesOf(`samples/${name}`));
-    for (const [name, due] of linesOf('samples/index-lists').map(split)) {
+    const [fileRow, batchRow] = ['team.file-row', 'team.batch-row'].map(sample);
+    const imported = (name) => ach.importLines(fileRow, batchRow, sample(name));
+    for (const [name, due] of listedIn('index-lists')) {
         expect('lists', name, lineOf(() => checked(PLAIN, ach.write(PLAIN, imported(name)))), due);
     }
     const table = imported('team.csv');
-    expect('lists', 'team.table', hex(table), hex(bytesOf('samples/team.table')));
-    expect('lists', 'exported and imported', hex(ach.importLines(fileRow, batchRow, ach.exportLines(table))), hex(table));
+    expect('lists', 'team.table', hex(table), hex(sample('team.table')));
+    const again = ach.importLines(fileRow, batchRow, ach.exportLines(table));
+    expect('lists', 'exported and imported', hex(again), hex(table));
     manyLines(fileRow, batchRow);
 }
 
@@ -165,51 +181,57 @@ function manyLines(fileRow, batchRow) {
     const table = ach.importLines(fileRow, batchRow, list);
     for (const way of [PLAIN, LINED]) {
         const file = ach.write(way, table);
-        expect('lists', `${count} lines`, lineOf(() => checked(way, file)), `OK 1 ${count} 0 0 ${2001 * count}`);
+        const due = `OK 1 ${count} 0 0 ${2001 * count}`;
+        expect('lists', `${count} lines`, lineOf(() => checked(way, file)), due);
         expect('lists', `${count} lines back`, hex(ach.read(way, file)), hex(table));
     }
     const grown = ach.memoryLength;
     for (let again = 0; again < 5; again += 1) ach.write(LINED, table);
-    expect('memory', 'grows for a long list and no further', `${grown > before} ${ach.memoryLength}`, `true ${grown}`);
+    const said = `${grown > before} ${ach.memoryLength}`;
+    expect('memory', 'grows for a long list and no further', said, `true ${grown}`);
 }
 
-/** What becomes of each refused file: a sample and the changes, or what is left to refuse. An accepted file stays as it is. */
+/** What becomes of each refused file: another sample and the changes, or what is left to refuse. */
 function mendings() {
-    for (const [name, due] of linesOf('samples/index-mended').map(split)) {
-        const [way, file] = [name.endsWith('-lined.ach') ? LINED : PLAIN, bytesOf(`samples/${name}`)];
-        const sample = due.match(/^OK (\S+)/)?.[1];
+    for (const [name, due] of listedIn('index-mended')) {
+        const way = name.endsWith('-lined.ach') ? LINED : PLAIN;
+        const other = due.match(/^OK (\S+)/)?.[1];
         const asked = () => {
-            const mended = ach.mend(way, file);
-            const isSample = sample !== undefined && hex(mended.file) === hex(bytesOf(`samples/${sample}`));
-            return [isSample ? sample : 'another file', Buffer.from(mended.changes)];
+            const { file, changes } = ach.mend(way, sample(name));
+            const isOther = other !== undefined && hex(file) === hex(sample(other));
+            return [isOther ? other : 'another file', Buffer.from(changes)];
         };
         expect('mend', name, lineOf(asked), due);
     }
-    for (const [name] of linesOf('samples/index').map(split).filter(([, due]) => due.startsWith('OK'))) {
-        const file = bytesOf(`samples/${name}`);
-        for (const [way, lent] of [[PLAIN, file], [LINED, lined(file)]]) {
-            const mended = ach.mend(way, lent);
-            expect('mend', name, `${hex(mended.file)} ${Buffer.from(mended.changes)}`, `${hex(lent)} ${'0'.repeat(21)}`);
-        }
-    }
+}
+
+/** An accepted file stays as it is, and the list of changes is three counts of nothing. */
+function mendedIdly(way, file, name) {
+    const mended = ach.mend(way, file);
+    const said = `${hex(mended.file)} ${Buffer.from(mended.changes)}`;
+    expect('mend', name, said, `${hex(file)} ${'0'.repeat(21)}`);
 }
 
 /** The recall that the sample is of. */
 function recall() {
-    const left = ach.takeOut(PLAIN, bytesOf('samples/gaps.ach'), BigUint64Array.of(6n, 2n, 3n, 5n, 2n));
-    expect('takeOut', 'recalled.ach', hex(left.file), hex(bytesOf('samples/recalled.ach')));
+    const left = ach.takeOut(PLAIN, sample('gaps.ach'), BigUint64Array.of(6n, 2n, 3n, 5n, 2n));
+    expect('takeOut', 'recalled.ach', hex(left.file), hex(sample('recalled.ach')));
 }
 
 // ---- the vectors
 
 function vectors(folder) {
     const due = linesOf('crates/edges/stdout');
-    linesOf('crates/edges/args').forEach((name, i) => bothWays('vectors', bytesOf(`crates/edges/data/${name}`), name, due[i]));
+    linesOf('crates/edges/args').forEach((name, i) => {
+        bothWays('vectors', bytesOf(`crates/edges/data/${name}`), name, due[i]);
+    });
     if (folder === undefined) return;
     const read = (name) => readFileSync(`${folder}/${name}`);
     const expected = read('expected').toString().trimEnd().split('\n');
     const names = read('names').toString().trimEnd().split('\n');
-    names.forEach((name, i) => one('vectors of line ends', LINED, new Uint8Array(read(name)), name, expected[i]));
+    names.forEach((name, i) => {
+        one('vectors of line ends', LINED, new Uint8Array(read(name)), name, expected[i]);
+    });
 }
 
 // ---- the loader
@@ -224,8 +246,9 @@ const thrown = (call) => {
 };
 
 function mistakes() {
-    const file = bytesOf('samples/whole.ach');
+    const file = sample('whole.ach');
     const { rows } = ach.check(PLAIN, file);
+    const others = rows.map((number) => number + 1n);
     const cases = [
         ['no way', () => ach.check(file), 'TypeError'],
         ['a way that is none', () => ach.check(2, file), 'TypeError'],
@@ -234,19 +257,20 @@ function mistakes() {
         ['half a cent', () => ach.alter(PLAIN, file, rows, 1, 0.5), 'RangeError'],
         ['a number below 0', () => ach.addendum(PLAIN, file, -1), 'RangeError'],
         ['an entry of 65 bits', () => ach.takeOut(PLAIN, file, [2n ** 64n]), 'RangeError'],
-        ['rows of another file', () => ach.alter(PLAIN, file, rows.map((x) => x + 1n), 1, 1), 'Refusal'],
+        ['rows of another file', () => ach.alter(PLAIN, file, others, 1, 1), 'Refusal'],
     ];
     for (const [about, call, due] of cases) expect('mistakes', about, thrown(call), due);
-    expect('mistakes', 'what is passed stays', hex(file), hex(bytesOf('samples/whole.ach')));
+    expect('mistakes', 'what is passed stays', hex(file), hex(sample('whole.ach')));
 }
 
 samples();
 limits();
 lists();
-if (existsSync(new URL('samples/index-mended', top))) mendings();
+if (mends) mendings();
 else console.log('wasm: mend is not tried, as there is no samples/index-mended');
 recall();
 vectors(process.argv[2]);
 mistakes();
-console.log(`wasm: ${[...counts].map(([kind, count]) => `${kind} ${count}`).join(', ')}; differences ${differences}`);
+const counted = [...counts].map(([kind, count]) => `${kind} ${count}`).join(', ');
+console.log(`wasm: ${counted}; differences ${differences}`);
 process.exitCode = differences === 0 ? 0 : 1;
