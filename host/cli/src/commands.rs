@@ -2,18 +2,20 @@
 
 use crate::explain;
 use crate::funds;
-use crate::input::{self, Content, Stamp};
+use crate::input::{self, Content, Limits, Stamp};
+use crate::list::{self, FirstLine};
 use crate::list_words::{self, Import, LONGEST_ROW};
 use crate::money::{signed, spelled};
 use crate::options::{Amount, Command, Entry, Recall, Rows, Source, Target, HELP};
-use crate::output;
-use crate::progress::Progress;
+use crate::place::Place;
+use crate::progress::watched;
 use crate::recall;
 use crate::show;
-use crate::trouble::{failed, standard_output, Trouble};
+use crate::stdout;
+use crate::trouble::{failed, Trouble};
 use crate::words;
 use ach::{Acceptance, Refusal, Way};
-use std::io::{self, BufWriter, Write};
+use std::io::{self, Write};
 
 pub fn run(command: Command) -> Result<(), Trouble> {
     match command {
@@ -42,16 +44,18 @@ struct Loaded {
     name: String,
     bytes: Vec<u8>,
     stamp: Option<Stamp>,
+    /// Of a list whose first line is none, the beginning is enough.
+    whole: bool,
 }
 
 fn load_file(way: Way, source: &Source, line: bool) -> Result<Loaded, Trouble> {
-    load(source, way.longest_file())?.map_err(|name| {
+    load(source, Limits::up_to(way.longest_file()))?.map_err(|name| {
         refused(Refusal::without_place(1), line, || words::of_long_file(way, &name))
     })
 }
 
 fn load_table(source: &Source, line: bool) -> Result<Loaded, Trouble> {
-    load(source, ach::LONGEST_TABLE)?
+    load(source, Limits::up_to(ach::LONGEST_TABLE))?
         .map_err(|name| refused(Refusal::without_place(24), line, || words::of_long_table(&name)))
 }
 
@@ -59,24 +63,31 @@ fn load_table(source: &Source, line: bool) -> Result<Loaded, Trouble> {
 const LONGEST_LIST: usize = 1_000_000_000;
 
 fn load_list(source: &Source) -> Result<Loaded, Trouble> {
-    match load(source, LONGEST_LIST)? {
-        Ok(loaded) => Ok(loaded),
+    let settled = |beginning: &[u8]| list::first_line(beginning) != FirstLine::Whole;
+    let loaded = match load(source, Limits { most: LONGEST_LIST, settled })? {
+        Ok(loaded) => loaded,
         Err(name) => {
-            failed(format!("{name}: more than {LONGEST_LIST} bytes are not read as a list"))
+            return failed(format!("{name}: more than {LONGEST_LIST} bytes are not read as a list"))
         }
+    };
+    let Loaded { name, bytes, whole, .. } = &loaded;
+    if !whole && list::first_line(bytes) == FirstLine::Endless {
+        let length = bytes.len();
+        return failed(format!("{name}: a first line of more than {length} bytes is not read"));
     }
+    Ok(loaded)
 }
 
 /// The bytes of a row. Of a file that is much too long, as many as the library refuses as well.
 fn load_row(source: &Source) -> Result<Vec<u8>, Trouble> {
-    let loaded = load(source, LONGEST_ROW)?;
+    let loaded = load(source, Limits::up_to(LONGEST_ROW))?;
     Ok(loaded.map_or_else(|_| vec![b' '; LONGEST_ROW + 1], |loaded| loaded.bytes))
 }
 
 /// The entries in a list of those to be removed.
 fn load_entries(source: &Source) -> Result<Vec<recall::Entries>, Trouble> {
     let most = recall::LONGEST_LIST;
-    match load(source, most)? {
+    match load(source, Limits::up_to(most))? {
         Ok(Loaded { name, bytes, .. }) => recall::listed(&name, &bytes),
         Err(name) => {
             failed(format!("{name}: more than {most} bytes are not read as a list of entries"))
@@ -85,19 +96,15 @@ fn load_entries(source: &Source) -> Result<Vec<recall::Entries>, Trouble> {
 }
 
 /// The bytes, or the name of what is too long.
-fn load(source: &Source, most: usize) -> Result<Result<Loaded, String>, Trouble> {
+fn load(source: &Source, limits: Limits) -> Result<Result<Loaded, String>, Trouble> {
     let name = source.name();
-    let input = watched("reading", &name, || input::read(source, most))?;
+    let input = watched("reading", &name, || input::read(source, limits))?;
+    let stamp = input.stamp;
     Ok(match input.content {
-        Content::Bytes(bytes) => Ok(Loaded { name, bytes, stamp: input.stamp }),
+        Content::Bytes(bytes) => Ok(Loaded { name, bytes, stamp, whole: true }),
+        Content::Beginning(bytes) => Ok(Loaded { name, bytes, stamp, whole: false }),
         Content::TooLong => Err(name),
     })
-}
-
-/// Does the work, and speaks of it on the terminal if it takes long.
-fn watched<T>(doing: &str, name: &str, work: impl FnOnce() -> T) -> T {
-    let _progress = Progress::of(format!("ach: {doing} {name}"));
-    work()
 }
 
 /// What the library refused: a line on standard output, or words for standard error.
@@ -112,25 +119,16 @@ fn refused(refusal: Refusal, line: bool, words: impl FnOnce() -> String) -> Trou
 }
 
 fn say(text: &str) -> Result<(), Trouble> {
-    let mut to = io::stdout().lock();
-    to.write_all(text.as_bytes()).and_then(|()| to.flush()).map_err(standard_output)
-}
-
-/// Says what was done, but not where the result itself goes.
-fn say_beside(target: &Target, text: &str) -> Result<(), Trouble> {
-    match target {
-        Target::StandardOutput => {
-            // The result is out; that nobody listens to the rest does not undo it.
-            let _ = io::stderr().lock().write_all(text.as_bytes());
-            Ok(())
-        }
-        _ => say(text),
-    }
+    stdout::write(text.as_bytes())
 }
 
 /// The check program's line.
 fn say_line(answer: Result<Acceptance, Refusal>) -> Result<(), Trouble> {
-    say(&format!("{}\n", ach::line(&answer)))
+    say(&line_of(answer))
+}
+
+fn line_of(answer: Result<Acceptance, Refusal>) -> String {
+    format!("{}\n", ach::line(&answer))
 }
 
 fn held_words(held: &Acceptance) -> String {
@@ -174,9 +172,7 @@ fn show(way: Way, file: &Source) -> Result<(), Trouble> {
     let loaded = load_file(way, file, false)?;
     let held = check_bytes(way, &loaded, false)?;
     let table = of_file(way, &loaded, false, "reading", ach::table_of)?;
-    let mut to = BufWriter::new(io::stdout().lock());
-    let shown = show::page(&loaded.name, &table, &held, &mut to);
-    shown.and_then(|()| to.flush()).map_err(standard_output)
+    stdout::page(|to| show::page(&loaded.name, &table, &held, to))
 }
 
 fn funds(way: Way, file: &Source, limit: &Amount, line: bool) -> Result<(), Trouble> {
@@ -195,42 +191,38 @@ fn funds(way: Way, file: &Source, limit: &Amount, line: bool) -> Result<(), Trou
 }
 
 fn read(way: Way, file: &Source, target: &Target, line: bool) -> Result<(), Trouble> {
-    output::look_at(target)?;
+    let place = Place::open(target)?;
     let loaded = load_file(way, file, line)?;
     let table = of_file(way, &loaded, line, "reading", ach::table_of)?;
-    put(target, &table, None)?;
-    report(target, ach::check(way, &loaded.bytes), table.len(), line)
+    let held = check_bytes(way, &loaded, line)?;
+    let words = written(&place, &held, table.len(), line);
+    place.put(&table, loaded.stamp, &words)
 }
 
 fn write(way: Way, table: &Source, target: &Target, line: bool) -> Result<(), Trouble> {
-    output::look_at(target)?;
+    let place = Place::open(target)?;
     let loaded = load_table(table, line)?;
     let Loaded { name, bytes, .. } = &loaded;
     let file = watched("writing from", name, || ach::file_of(way, bytes))
         .map_err(|refusal| refused(refusal, line, || words::of_table(name, bytes, refusal)))?;
-    put(target, &file, None)?;
-    report(target, ach::check(way, &file), file.len(), line)
+    let words = written(&place, &held_by(way, &file)?, file.len(), line);
+    place.put(&file, loaded.stamp, &words)
 }
 
-fn put(target: &Target, bytes: &[u8], read: Option<Stamp>) -> Result<(), Trouble> {
-    watched("writing", &target.name(), || output::put(target, bytes, read))
-}
-
-/// Says how much was written, and what the file holds that it stands for.
-fn report(
-    target: &Target,
-    held: Result<Acceptance, Refusal>,
-    length: usize,
-    line: bool,
-) -> Result<(), Trouble> {
-    let Ok(held) = held else {
-        return failed("the library refuses what it has just granted");
-    };
-    if line {
-        return say_line(Ok(held));
+/// What a file holds that the library has made.
+fn held_by(way: Way, file: &[u8]) -> Result<Acceptance, Trouble> {
+    match ach::check(way, file) {
+        Ok(held) => Ok(held),
+        Err(_) => failed("the library refuses what it has just granted"),
     }
-    let words = format!("{}: {length} bytes written; {}\n", target.name(), held_words(&held));
-    say_beside(target, &words)
+}
+
+/// How much was written, and what the file holds that it stands for.
+fn written(place: &Place, held: &Acceptance, length: usize, line: bool) -> String {
+    if line {
+        return line_of(Ok(*held));
+    }
+    format!("{}: {length} bytes written; {}\n", place.name(), held_words(held))
 }
 
 fn alter(
@@ -241,7 +233,7 @@ fn alter(
     target: &Target,
     line: bool,
 ) -> Result<(), Trouble> {
-    output::look_at(target)?;
+    let place = Place::open(target)?;
     let mut loaded = load_file(way, file, line)?;
     let (name, bytes) = (&loaded.name, &mut loaded.bytes);
     let altered = watched("altering", name, || {
@@ -251,20 +243,14 @@ fn alter(
     let difference = altered.map_err(|refusal| {
         refused(refusal, line, || words::of_alteration(way, name, bytes, refusal, entry, amount))
     })?;
-    put(target, bytes, loaded.stamp)?;
-    if line {
-        return report(target, ach::check(way, bytes), bytes.len(), line);
-    }
-    let old = amount.number as i64 - difference;
-    let words = format!(
-        "{}: entry {} from {} to {} ({})\n",
-        target.name(),
-        entry.number,
-        spelled(old as u64),
-        spelled(amount.number),
-        signed(difference)
-    );
-    say_beside(target, &words)
+    let words = if line {
+        line_of(Ok(held_by(way, bytes)?))
+    } else {
+        let (number, old) = (entry.number, (amount.number as i64 - difference) as u64);
+        let (old, new, change) = (spelled(old), spelled(amount.number), signed(difference));
+        format!("{}: entry {number} from {old} to {new} ({change})\n", place.name())
+    };
+    place.put(bytes, loaded.stamp, &words)
 }
 
 fn remove(
@@ -274,7 +260,7 @@ fn remove(
     target: &Target,
     line: bool,
 ) -> Result<(), Trouble> {
-    output::look_at(target)?;
+    let place = Place::open(target)?;
     let mut asked = recall.entries;
     if let Some(list) = &recall.list {
         asked.extend(load_entries(list)?);
@@ -291,16 +277,12 @@ fn remove(
         refused(refusal, line, words)
     })?;
     bytes.truncate(length);
-    put(target, bytes, loaded.stamp)?;
-    let after = ach::check(way, bytes);
-    report(target, after, length, line)?;
-    match after {
-        Ok(after) if !line => {
-            let gone = difference(&before, &after);
-            say_beside(target, &format!("  taken out: {}\n", held_words(&gone)))
-        }
-        _ => Ok(()),
+    let after = held_by(way, bytes)?;
+    let mut words = written(&place, &after, length, line);
+    if !line {
+        words += &format!("  taken out: {}\n", held_words(&difference(&before, &after)));
     }
+    place.put(bytes, loaded.stamp, &words)
 }
 
 /// What was held before and is no longer.
@@ -328,28 +310,40 @@ fn addendum(way: Way, file: &Source, entry: &Entry) -> Result<(), Trouble> {
 }
 
 fn import(list: &Source, rows: &Rows, target: &Target, line: bool) -> Result<(), Trouble> {
-    output::look_at(target)?;
+    let place = Place::open(target)?;
     let (file_row, batch_row) = (load_row(&rows.file)?, load_row(&rows.batch)?);
-    let Loaded { name, bytes, .. } = load_list(list)?;
+    let Loaded { name, bytes, stamp, whole } = load_list(list)?;
     let given = Import { file_row: &file_row, batch_row: &batch_row, list: &bytes };
-    let table = watched("importing", &name, || ach::import(&file_row, &batch_row, &bytes))
-        .map_err(|refusal| {
-            refused(refusal, line, || list_words::of_import(&name, &given, refusal))
-        })?;
-    put(target, &table, None)?;
-    report(target, held_by(&table), table.len(), line)
+    let answer = watched("importing", &name, || ach::import(&file_row, &batch_row, &bytes));
+    let of_first_line = matches!(answer, Err(Refusal { number: 29, record: 1, .. }));
+    if !whole && !of_first_line {
+        return failed(format!("{name}: the library takes a first line that is none"));
+    }
+    let table = answer.map_err(|refusal| {
+        refused(refusal, line, || list_words::of_import(&name, &given, refusal))
+    })?;
+    let words = written(&place, &held_by_table(&table)?, table.len(), line);
+    place.put(&table, stamp, &words)
 }
 
 fn export(table: &Source, target: &Target, line: bool) -> Result<(), Trouble> {
-    output::look_at(target)?;
-    let Loaded { name, bytes, .. } = load_table(table, line)?;
+    let place = Place::open(target)?;
+    let Loaded { name, bytes, stamp, .. } = load_table(table, line)?;
     let lines = watched("exporting", &name, || ach::export(&bytes))
         .map_err(|refusal| refused(refusal, line, || words::of_table(&name, &bytes, refusal)))?;
-    put(target, &lines, None)?;
-    report(target, held_by(&bytes), lines.len(), line)
+    let held = held_by_table(&bytes)?;
+    let words = if line {
+        line_of(Ok(held))
+    } else {
+        list_words::of_export(place.name(), lines.len(), &held, &bytes)
+    };
+    place.put(&lines, stamp, &words)
 }
 
 /// What the file of a table holds, which is the same in both ways.
-fn held_by(table: &[u8]) -> Result<Acceptance, Refusal> {
-    ach::check(Way::Plain, &ach::file_of(Way::Plain, table)?)
+fn held_by_table(table: &[u8]) -> Result<Acceptance, Trouble> {
+    match ach::file_of(Way::Plain, table) {
+        Ok(file) => held_by(Way::Plain, &file),
+        Err(_) => failed("the library refuses what it has just granted"),
+    }
 }

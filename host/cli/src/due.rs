@@ -3,9 +3,9 @@
 //! The first refusal is what is being explained, so everything before it is in order.
 
 use crate::money::{of_digits, spelled};
-use crate::words::plain_text;
-use ach::fields::{record_type, Field, Kind, Near, Own, Sum, COLUMNS};
-use ach::Way;
+use crate::text::plain_text;
+use ach::fields::{record_type, Field, Kind, Near, Own, Sum, COLUMNS, RECORD_TYPES};
+use ach::{Refusal, Way};
 use std::fmt;
 
 const LARGEST_TOTAL: u64 = 999_999_999_999;
@@ -34,16 +34,26 @@ fn text(text: impl Into<Vec<u8>>, why: &str) -> Due {
 }
 
 /// A refused field in its file.
-pub struct Place<'f> {
-    pub way: Way,
+pub struct RefusedField<'f> {
+    way: Way,
     /// The records before the refused one.
-    pub before: &'f [u8],
+    before: &'f [u8],
     pub record: &'f [u8],
     pub field: &'static Field,
-    pub number: u8,
+    number: u8,
 }
 
-impl<'f> Place<'f> {
+impl<'f> RefusedField<'f> {
+    /// Nothing if no field is named or it is not there.
+    pub fn of(way: Way, file: &'f [u8], refusal: Refusal) -> Option<Self> {
+        let start = (refusal.record as usize).checked_sub(1)?.checked_mul(way.record_length())?;
+        let record = file.get(start..start + COLUMNS)?;
+        // A record that is none has a type all the same: what stands in its first column.
+        let known = record_type(record[0]).filter(|_| refusal.number != 3);
+        let field = known.unwrap_or(&RECORD_TYPES[0]).field(refusal.field)?;
+        Some(RefusedField { way, before: &file[..start], record, field, number: refusal.number })
+    }
+
     pub fn due(&self) -> Due {
         let width = self.field.width();
         match self.field.kind {
@@ -264,8 +274,7 @@ fn check_digit(bank: &[u8]) -> u8 {
 
 #[cfg(test)]
 mod tests {
-    use crate::words::place_of;
-    use ach::Way;
+    use super::*;
 
     /// Wherever there is but one text that is due, it makes the refusal at that place go away.
     #[test]
@@ -276,14 +285,14 @@ mod tests {
                 let Err(refusal) = ach::check(way, &vector.file) else {
                     continue;
                 };
-                let Some(place) = place_of(way, &vector.file, refusal) else {
+                let Some(refused) = RefusedField::of(way, &vector.file, refusal) else {
                     continue;
                 };
-                let Some(due) = place.due().text else {
+                let Some(due) = refused.due().text else {
                     continue;
                 };
                 let mut mended = vector.file.clone();
-                let start = place.before.len() + place.field.first - 1;
+                let start = refused.before.len() + refused.field.first - 1;
                 mended[start..start + due.len()].copy_from_slice(&due);
                 if let Err(next) = ach::check(way, &mended) {
                     // The line end, which has field 0, comes behind all fields of its record.
@@ -308,7 +317,9 @@ mod tests {
                 continue;
             };
             let twin = generate::lines::lined(&vector.file);
-            let due = |way, file| place_of(way, file, refusal).map(|place| place.due().to_string());
+            let due = |way, file| {
+                RefusedField::of(way, file, refusal).map(|refused| refused.due().to_string())
+            };
             let plain = due(Way::Plain, &vector.file);
             assert_eq!(plain, due(Way::Lined, &twin), "{}", vector.about);
             assert_ne!(plain, Some(String::new()), "{}", vector.about);

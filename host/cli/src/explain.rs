@@ -1,7 +1,7 @@
 //! What the refusals' numbers mean, and where each can be given.
 
 use crate::list_words::due_in;
-use crate::words::columns;
+use crate::text::columns;
 use ach::fields::{Kind, RecordType, RECORD_TYPES};
 use ach::LineField;
 
@@ -128,7 +128,7 @@ const ADVICE: [(u8, &str); 32] = [
 #[cfg(test)]
 mod tests {
     use super::*;
-    use crate::words::place_of;
+    use crate::due::RefusedField;
     use ach::Way;
     use std::collections::BTreeSet;
 
@@ -145,10 +145,10 @@ mod tests {
             let Err(refusal) = ach::check(Way::Plain, &vector.file) else {
                 continue;
             };
-            if let Some(place) = place_of(Way::Plain, &vector.file, refusal) {
-                let numbers = numbers_of(place.field.kind);
+            if let Some(refused) = RefusedField::of(Way::Plain, &vector.file, refusal) {
+                let numbers = numbers_of(refused.field.kind);
                 assert!(numbers.contains(&refusal.number), "{}: {refusal}", vector.about);
-                seen.insert((place.record[0], refusal.field, refusal.number));
+                seen.insert((refused.record[0], refusal.field, refusal.number));
             }
         }
         // The vectors show every number of every field, so none may be listed beyond those.

@@ -18,6 +18,8 @@ pub enum Content {
     Bytes(Vec<u8>),
     /// More bytes than it may have, so that the rest was not read.
     TooLong,
+    /// The first bytes, which settled it, so that the rest was not read.
+    Beginning(Vec<u8>),
 }
 
 /// What tells a file that was written to, or replaced, from the one that was read.
@@ -38,33 +40,55 @@ impl Stamp {
             modified: (metadata.mtime(), metadata.mtime_nsec()),
         }
     }
-}
 
-pub fn read(source: &Source, most: usize) -> Result<Input, Trouble> {
-    match source {
-        Source::StandardInput => {
-            let name = source.name();
-            let content = up_to(io::stdin().lock(), most).map_err(with_path(Path::new(&name)))?;
-            Ok(Input { content, stamp: None })
-        }
-        Source::File(path) => read_file(path, most),
+    pub fn is_of_same_file(&self, other: &Stamp) -> bool {
+        (self.device, self.inode) == (other.device, other.inode)
     }
 }
 
-fn read_file(path: &Path, most: usize) -> Result<Input, Trouble> {
+/// How much is read, and of what it is enough to know the beginning.
+#[derive(Clone, Copy)]
+pub struct Limits {
+    pub most: usize,
+    /// Told the first bytes of what is longer than these: whether they settle it.
+    pub settled: fn(&[u8]) -> bool,
+}
+
+impl Limits {
+    pub fn up_to(most: usize) -> Self {
+        Limits { most, settled: |_| false }
+    }
+}
+
+/// As many bytes are looked at first.
+const BEGINNING: u64 = 1 << 20;
+
+pub fn read(source: &Source, limits: Limits) -> Result<Input, Trouble> {
+    match source {
+        Source::StandardInput => {
+            let name = source.name();
+            let content =
+                content(io::stdin().lock(), limits).map_err(with_path(Path::new(&name)))?;
+            Ok(Input { content, stamp: None })
+        }
+        Source::File(path) => read_file(path, limits),
+    }
+}
+
+fn read_file(path: &Path, limits: Limits) -> Result<Input, Trouble> {
     let file = File::open(path).map_err(with_path(path))?;
     let metadata = file.metadata().map_err(with_path(path))?;
     if metadata.is_dir() {
         return failed(format!("{}: this is a folder, not a file", shown(path)));
     }
     if !metadata.is_file() {
-        let content = up_to(&file, most).map_err(with_path(path))?;
+        let content = content(&file, limits).map_err(with_path(path))?;
         return Ok(Input { content, stamp: None });
     }
-    if metadata.len() > most as u64 {
+    if metadata.len() > limits.most as u64 {
         return Ok(Input { content: Content::TooLong, stamp: None });
     }
-    read_unchanged(path, &file, &file, most)
+    read_unchanged(path, &file, &file, limits)
 }
 
 /// Reads a regular file, and makes sure that nobody wrote to it meanwhile.
@@ -72,14 +96,15 @@ fn read_unchanged(
     path: &Path,
     file: &File,
     reader: impl Read,
-    most: usize,
+    limits: Limits,
 ) -> Result<Input, Trouble> {
     let stamp = || file.metadata().map(|metadata| Stamp::of(&metadata)).map_err(with_path(path));
     let before = stamp()?;
-    let content = up_to(reader, most).map_err(with_path(path))?;
+    let content = content(reader, limits).map_err(with_path(path))?;
     let length = match &content {
         Content::Bytes(bytes) => bytes.len() as u64,
-        Content::TooLong => most as u64 + 1,
+        Content::TooLong => limits.most as u64 + 1,
+        Content::Beginning(_) => before.length,
     };
     if before != stamp()? || length != before.length {
         return failed(format!("{}: the file changed while it was read", shown(path)));
@@ -87,11 +112,16 @@ fn read_unchanged(
     Ok(Input { content, stamp: Some(before) })
 }
 
-fn up_to(reader: impl Read, most: usize) -> io::Result<Content> {
+fn content(reader: impl Read, limits: Limits) -> io::Result<Content> {
     let mut bytes = Vec::new();
     // One byte more than may be there is enough to know.
-    reader.take(most as u64 + 1).read_to_end(&mut bytes)?;
-    Ok(if bytes.len() > most { Content::TooLong } else { Content::Bytes(bytes) })
+    let mut reader = reader.take(limits.most as u64 + 1);
+    reader.by_ref().take(BEGINNING).read_to_end(&mut bytes)?;
+    if bytes.len() as u64 == BEGINNING && (limits.settled)(&bytes) {
+        return Ok(Content::Beginning(bytes));
+    }
+    reader.read_to_end(&mut bytes)?;
+    Ok(if bytes.len() > limits.most { Content::TooLong } else { Content::Bytes(bytes) })
 }
 
 #[cfg(test)]
@@ -122,11 +152,12 @@ mod tests {
 
     fn read_while(path: &Path, meddle: impl FnMut()) -> Result<usize, String> {
         let file = File::open(path).unwrap();
-        let outcome = read_unchanged(path, &file, Meddler(&file, Some(meddle)), 1_000);
+        let limits = Limits::up_to(1_000);
+        let outcome = read_unchanged(path, &file, Meddler(&file, Some(meddle)), limits);
         std::fs::remove_file(path).unwrap();
         match outcome.map(|input| input.content) {
             Ok(Content::Bytes(bytes)) => Ok(bytes.len()),
-            Ok(Content::TooLong) => panic!("940 bytes are not too long"),
+            Ok(_) => panic!("940 bytes are not too long"),
             Err(Trouble::Failed(words)) => Err(words),
             Err(_) => panic!("only a failure is expected"),
         }
@@ -165,9 +196,16 @@ mod tests {
     #[test]
     fn no_more_is_read_than_needed() {
         let mut endless = io::repeat(b'9').take(5_000);
-        assert!(matches!(up_to(&mut endless, 940).unwrap(), Content::TooLong));
+        let limits = Limits::up_to(940);
+        assert!(matches!(content(&mut endless, limits).unwrap(), Content::TooLong));
         assert_eq!(endless.limit(), 5_000 - 941);
-        let just = io::repeat(b'9').take(940);
-        assert!(matches!(up_to(just, 940).unwrap(), Content::Bytes(bytes) if bytes.len() == 940));
+        let just = content(io::repeat(b'9').take(940), limits).unwrap();
+        assert!(matches!(just, Content::Bytes(bytes) if bytes.len() == 940));
+        // What the first bytes settle is not read on.
+        let limits = Limits { most: 1 << 30, settled: |bytes| bytes.starts_with(b"9") };
+        let mut endless = io::repeat(b'9').take(1 << 40);
+        let beginning = content(&mut endless, limits).unwrap();
+        assert!(matches!(beginning, Content::Beginning(bytes) if bytes.len() == 1 << 20));
+        assert_eq!(endless.limit(), (1 << 40) - (1 << 20));
     }
 }

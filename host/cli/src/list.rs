@@ -42,6 +42,29 @@ pub fn lines(list: &[u8]) -> impl Iterator<Item = Line> + '_ {
     })
 }
 
+/// What the beginning of a list tells of its first line, whatever follows.
+#[derive(Debug, PartialEq)]
+pub enum FirstLine {
+    /// It ends there, and has six fields.
+    Whole,
+    /// It is no line.
+    Faulty,
+    /// It does not end there.
+    Endless,
+}
+
+pub fn first_line(beginning: &[u8]) -> FirstLine {
+    let line = Line::first_of(beginning);
+    // With more bytes a CR at the end may become a break, and a quote there one of two.
+    let open = line.length + 1 >= beginning.len();
+    match line.fields.len() {
+        fields if fields > LINE_FIELDS.len() => FirstLine::Faulty,
+        _ if open => FirstLine::Endless,
+        fields if line.fault.is_some() || fields < LINE_FIELDS.len() => FirstLine::Faulty,
+        _ => FirstLine::Whole,
+    }
+}
+
 impl Line {
     fn first_of(bytes: &[u8]) -> Line {
         let mut fields = Vec::new();
@@ -186,6 +209,25 @@ mod tests {
                 let line = lines(list.as_bytes()).last().unwrap();
                 assert_eq!((line.fault, line.fields.len()), (Some(fault.clone()), fields));
             }
+        }
+    }
+
+    #[test]
+    fn a_beginning_is_not_judged_by_its_end() {
+        for (beginning, expected) in [
+            ("1,2,3,4,5,6\r\n1,", FirstLine::Whole),
+            ("1,2,3,4,5,6\r\n", FirstLine::Endless),
+            ("1,2,3,4,5,6\r", FirstLine::Endless),
+            ("1,2,3,4,5,\"6\"", FirstLine::Endless),
+            ("1,2,3,4,5,\"6\r\n", FirstLine::Endless),
+            ("1,2,3", FirstLine::Endless),
+            ("1,2,3,4,5,6,7", FirstLine::Faulty),
+            ("1,2,3\r\n1,", FirstLine::Faulty),
+            ("\0\0\0", FirstLine::Faulty),
+            ("1,\"2\"3,4", FirstLine::Faulty),
+            ("1,2\n3,4", FirstLine::Faulty),
+        ] {
+            assert_eq!(first_line(beginning.as_bytes()), expected, "{beginning:?}");
         }
     }
 

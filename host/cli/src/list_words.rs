@@ -1,8 +1,15 @@
 //! Refusals of an import in words: the line and its field, what stands there, what is due.
 
+use crate::formed::Sections;
 use crate::list::{self, Fault, Line};
-use crate::words::{in_formed, plain_text, Explanation};
-use ach::{LineField, Refusal, BATCH_ROW, FILE_ROW, LINE_FIELDS};
+use crate::money::spelled;
+use crate::text::plain_text;
+use crate::words::{in_formed, Explanation};
+use ach::{Acceptance, LineField, Refusal, BATCH_ROW, FILE_ROW, LINE_FIELDS};
+use std::ops::Range;
+
+/// Columns 77-78 in an entry's row, which begins with column 2.
+const DISCRETIONARY: Range<usize> = 77 - 2..79 - 2;
 
 /// Of a row's file that is longer no more is read.
 pub const LONGEST_ROW: usize = 9_999;
@@ -31,6 +38,28 @@ pub fn of_import(name: &str, given: &Import, refusal: Refusal) -> String {
         _ => in_file(given, refusal),
     };
     explanation.lines(name, refusal)
+}
+
+/// What the lines of a table hold, and what of the table they do not.
+pub fn of_export(name: &str, length: usize, held: &Acceptance, table: &[u8]) -> String {
+    let (debits, credits) = (spelled(held.debit), spelled(held.credit));
+    let lines = held.entries;
+    let rows = Sections::of(table).into_iter().flat_map(|sections| sections.entries());
+    let discretionary = rows.filter(|(row, _)| row[DISCRETIONARY].iter().any(|byte| *byte != b' '));
+    let left_out: String = [
+        ("batch headers", held.batches),
+        ("traces", held.entries),
+        ("discretionary data", discretionary.count() as u64),
+        ("addenda", held.addenda),
+    ]
+    .into_iter()
+    .filter(|(_, count)| *count > 0)
+    .map(|(what, count)| format!(", {what} {count}"))
+    .collect();
+    format!(
+        "{name}: {length} bytes written; lines {lines}, debits {debits}, credits {credits}
+  left out: file header{left_out}\n"
+    )
 }
 
 /// What may stand in a field of a line.

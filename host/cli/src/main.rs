@@ -4,7 +4,7 @@
 //! All that is decided about a file is decided by the proved library. What is here moves bytes
 //! between files and the library's functions, and puts its answers into words.
 
-#![forbid(unsafe_code)]
+#![deny(unsafe_code)]
 
 mod commands;
 mod due;
@@ -14,12 +14,17 @@ mod funds;
 mod input;
 mod list;
 mod list_words;
+mod lock;
 mod money;
 mod options;
-mod output;
+mod place;
 mod progress;
 mod recall;
 mod show;
+mod stdout;
+mod system;
+mod temporary;
+mod text;
 mod trouble;
 mod words;
 

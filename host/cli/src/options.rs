@@ -53,21 +53,30 @@ filled in. A line break at the end of a row's file is NOT stripped: it counts.
   -o PATH      where the result goes; a file that is there is kept
   --force      replace a file that is there, keeping its permissions
   --in-place   replace the file that is read, keeping its permissions
+  --mode MODE  the permissions of the file behind -o, such as 640; without it a
+               new file is for its owner alone (600)
   --list PATH  entries to be removed, beside those on the command line
   --line       one line: OK batches entries addenda debit credit (in cents), or
                NO number record field (check, read, write, alter, remove,
                import, export; for an import's 29, 30 and 32 the line is the
-               record); for funds OK batches record credits: how many batches
-               come up to the one found and with it, the record of its control
-               and the credits so far, or OK batches 0 0 for none
+               record, and an export's numbers are those of TABLE); for funds
+               OK batches record credits: how many batches come up to the one
+               found and with it, the record of its control and the credits so
+               far, or OK batches 0 0 for none
   --           what follows is no option
   --help, --version
 
-A result is written to a temporary file beside its place, synced, and then put
-there at once: after a refusal, a failure or a crash the old file is whole.
+A result is written and synced before it is put into its place at once: after a
+refusal, a failure or a crash the old file is whole. A file that is replaced is
+locked from before it is read, so that of two runs on it the second begins with
+what the first has made, or exits 2; a file that you may not write to, or that
+is read-only, is not replaced. A link stays, and the file it names is replaced.
 
-Exit status: 0 granted, 1 refused, 2 misuse or a file that cannot be read or
-written. Answers go to standard output, refusals in words to standard error.
+Exit status: 0 granted, and the result is in its place; 1 refused; 2 misuse, or
+a file that cannot be read or written. A run that ends with 1 or 2, or by INT,
+TERM or HUP, has changed no file. Answers go to standard output, refusals in
+words to standard error. If the result is in its place and the words on it cannot
+be said, that is a warning on standard error, and the status is 0.
 ";
 
 /// A file to be read.
@@ -90,8 +99,13 @@ impl Source {
 #[derive(Debug, PartialEq)]
 pub enum Target {
     StandardOutput,
-    New(PathBuf),
-    Replaced(PathBuf),
+    /// A file of this name, with these permissions if some are asked for. One that is there is
+    /// replaced only by force.
+    File {
+        path: PathBuf,
+        force: bool,
+        mode: Option<u32>,
+    },
     /// The file that is read, replaced if nobody wrote to it meanwhile.
     InPlace(PathBuf),
 }
@@ -100,7 +114,7 @@ impl Target {
     pub fn name(&self) -> String {
         match self {
             Target::StandardOutput => "standard output".into(),
-            Target::New(path) | Target::Replaced(path) | Target::InPlace(path) => shown(path),
+            Target::File { path, .. } | Target::InPlace(path) => shown(path),
         }
     }
 }
@@ -151,12 +165,19 @@ pub type Amount = Written;
 #[derive(Default)]
 struct Given {
     words: Vec<OsString>,
-    paths: Vec<(&'static str, OsString)>,
+    values: Vec<(&'static str, OsString)>,
     flags: Vec<&'static str>,
 }
 
-/// The options that a path follows.
-const WITH_PATH: [&str; 4] = ["-o", "--file-row", "--batch-row", "--list"];
+/// The options that something follows, and what that is.
+const WITH_VALUE: [(&str, &str); 5] = [
+    ("-o", A_FILE),
+    ("--file-row", A_FILE),
+    ("--batch-row", A_FILE),
+    ("--list", A_FILE),
+    ("--mode", "permissions such as 640"),
+];
+const A_FILE: &str = "the name of a file";
 const FLAGS: [&str; 4] = ["--force", "--in-place", "--line", "--lined"];
 
 pub fn parse(arguments: impl Iterator<Item = OsString>) -> Result<Command, Trouble> {
@@ -173,8 +194,8 @@ pub fn parse(arguments: impl Iterator<Item = OsString>) -> Result<Command, Troub
             "--" => options_end = true,
             "--help" | "-h" => return Ok(Command::Help),
             "--version" | "-V" => return Ok(Command::Version),
-            _ => match WITH_PATH.into_iter().find(|option| *option == spelled) {
-                Some(option) => given.set_path(option, rest.next())?,
+            _ => match WITH_VALUE.into_iter().find(|(option, _)| *option == spelled) {
+                Some((option, what)) => given.set_value(option, what, rest.next())?,
                 None => given.set_flag(spelled)?,
             },
         }
@@ -183,28 +204,33 @@ pub fn parse(arguments: impl Iterator<Item = OsString>) -> Result<Command, Troub
 }
 
 impl Given {
-    fn set_path(&mut self, option: &'static str, path: Option<OsString>) -> Result<(), Trouble> {
-        let Some(path) = path else {
-            return misused(format!("{option} wants the name of a file"));
+    fn set_value(
+        &mut self,
+        option: &'static str,
+        what: &str,
+        value: Option<OsString>,
+    ) -> Result<(), Trouble> {
+        let Some(value) = value else {
+            return misused(format!("{option} wants {what}"));
         };
-        if path.is_empty() {
-            return misused(format!("{option} wants the name of a file, and got an empty one"));
+        if value.is_empty() {
+            return misused(format!("{option} wants {what}, and got nothing"));
         }
-        if self.has_path(option) {
+        if self.has_value(option) {
             return misused(format!("{option} is given twice"));
         }
-        self.paths.push((option, path));
+        self.values.push((option, value));
         Ok(())
     }
 
-    fn has_path(&self, option: &str) -> bool {
-        self.paths.iter().any(|(given, _)| *given == option)
+    fn has_value(&self, option: &str) -> bool {
+        self.values.iter().any(|(given, _)| *given == option)
     }
 
-    /// Takes the path of an option out, so that those left over can be refused.
-    fn path(&mut self, option: &str) -> Option<OsString> {
-        let index = self.paths.iter().position(|(given, _)| *given == option)?;
-        Some(self.paths.remove(index).1)
+    /// Takes what follows an option out, so that those left over can be refused.
+    fn value(&mut self, option: &str) -> Option<OsString> {
+        let index = self.values.iter().position(|(given, _)| *given == option)?;
+        Some(self.values.remove(index).1)
     }
 
     fn set_flag(&mut self, spelled: &str) -> Result<(), Trouble> {
@@ -341,7 +367,7 @@ impl Given {
 
     /// A file that is read beside the one that the command is about, which may be standard input.
     fn read_path(&mut self, option: &str) -> Result<Option<Source>, Trouble> {
-        match self.path(option) {
+        match self.value(option) {
             Some(path) if path == "-" => misused(format!("{option} wants a file and not a stream")),
             path => Ok(path.map(|path| Source::File(path.into()))),
         }
@@ -349,7 +375,7 @@ impl Given {
 
     /// Where a changed file goes: to a place of its own, or to that of the one that is read.
     fn target_for(&mut self, file: &Source) -> Result<Target, Trouble> {
-        match (self.flag("--in-place"), self.has_path("-o"), file) {
+        match (self.flag("--in-place"), self.has_value("-o"), file) {
             (false, ..) => self.target(),
             (true, true, _) => misused("--in-place and -o exclude each other"),
             (true, false, Source::StandardInput) => {
@@ -360,23 +386,23 @@ impl Given {
     }
 
     fn target(&mut self) -> Result<Target, Trouble> {
-        let Some(path) = self.path("-o") else {
+        let Some(path) = self.value("-o") else {
             return misused("where to? This command wants -o and the name of a file");
         };
         if path == "-" && self.flags.contains(&"--line") {
             return misused("--line and -o - exclude each other");
         }
         let force = self.flag("--force");
-        Ok(match path.to_str() {
-            Some("-") => Target::StandardOutput,
-            _ if force => Target::Replaced(path.into()),
-            _ => Target::New(path.into()),
-        })
+        if path == "-" {
+            return Ok(Target::StandardOutput);
+        }
+        let mode = self.value("--mode").map(|word| permissions(&word)).transpose()?;
+        Ok(Target::File { path: path.into(), force, mode })
     }
 
     fn nothing_left(&self, command: &str) -> Result<(), Trouble> {
-        let path = self.paths.first().map(|(option, _)| *option);
-        match self.flags.first().copied().or(path) {
+        let value = self.values.first().map(|(option, _)| *option);
+        match self.flags.first().copied().or(value) {
             Some(option) => misused(format!("{command} does not take {option} here")),
             None => Ok(()),
         }
@@ -414,6 +440,17 @@ fn amount_in_cents(word: &OsString) -> Result<Amount, Trouble> {
     }
 }
 
+/// Three digits of octal, or a zero before them.
+fn permissions(word: &OsString) -> Result<u32, Trouble> {
+    let text = shown(Path::new(word));
+    let digits = text.strip_prefix('0').filter(|rest| rest.len() == 3).unwrap_or(&text);
+    let octal = digits.len() == 3 && digits.bytes().all(|byte| matches!(byte, b'0'..=b'7'));
+    match u32::from_str_radix(digits, 8).ok().filter(|_| octal) {
+        Some(mode) => Ok(mode),
+        None => misused(format!("--mode wants permissions such as 640, not {text}")),
+    }
+}
+
 fn refusal_number(word: &OsString) -> Result<u8, Trouble> {
     let text = shown(Path::new(word));
     let number = money::number(&text).and_then(|number| u8::try_from(number).ok());
@@ -435,12 +472,16 @@ mod tests {
         }
     }
 
+    fn file(path: &str, force: bool) -> Target {
+        Target::File { path: path.into(), force, mode: None }
+    }
+
     #[test]
     fn options_may_stand_anywhere() {
         let expected = || Command::Read {
             way: Way::Lined,
             file: Source::File("a".into()),
-            target: Target::Replaced("b".into()),
+            target: file("b", true),
             line: true,
         };
         for words in ["read a -o b --force --lined --line", "--line -o b read --lined --force a"] {
@@ -454,7 +495,7 @@ mod tests {
         assert_eq!(parsed("check -"), check(Source::StandardInput));
         assert_eq!(parsed("check -- --line"), check(Source::File("--line".into())));
         assert!(parsed("read a -o -").unwrap().has_target(&Target::StandardOutput));
-        assert!(parsed("read a -o b").unwrap().has_target(&Target::New("b".into())));
+        assert!(parsed("read a -o b").unwrap().has_target(&file("b", false)));
     }
 
     impl Command {
@@ -506,21 +547,36 @@ mod tests {
 
     #[test]
     fn a_list_with_its_rows() {
-        let file = |name: &str| Source::File(name.into());
+        let read = |name: &str| Source::File(name.into());
         let import = |list, target, line| {
-            let rows = Rows { file: file("f"), batch: file("r") };
+            let rows = Rows { file: read("f"), batch: read("r") };
             Ok(Command::Import { list, rows, target, line })
         };
         let words = "import a --file-row f --batch-row r -o b --line";
-        assert_eq!(parsed(words), import(file("a"), Target::New("b".into()), true));
+        assert_eq!(parsed(words), import(read("a"), file("b", false), true));
         let words = "--batch-row r import -o b --force --file-row f -";
-        let target = Target::Replaced("b".into());
-        assert_eq!(parsed(words), import(Source::StandardInput, target, false));
+        assert_eq!(parsed(words), import(Source::StandardInput, file("b", true), false));
         let target = Target::StandardOutput;
         assert_eq!(
             parsed("export a -o -"),
-            Ok(Command::Export { table: file("a"), target, line: false })
+            Ok(Command::Export { table: read("a"), target, line: false })
         );
+    }
+
+    #[test]
+    fn permissions_of_the_result() {
+        for (words, expected) in
+            [("--mode 640", 0o640), ("--mode 0604 --force", 0o604), ("--mode 000", 0)]
+        {
+            let target = match parsed(&format!("read a -o b {words}")) {
+                Ok(Command::Read { target, .. }) => target,
+                other => panic!("{words}: {other:?}"),
+            };
+            assert!(matches!(target, Target::File { mode, .. } if mode == Some(expected)));
+        }
+        for mode in ["", "64", "6400", "1777", "888", "rw-", "+64", "0x1", "00640"] {
+            assert!(parsed(&format!("read a -o b --mode {mode}")).is_err(), "{mode}");
+        }
     }
 
     #[test]
@@ -533,7 +589,7 @@ mod tests {
         let list = || Some(Source::File("l".into()));
         let (given, target) = recall("remove a 9 3-7 9 -o b --force");
         assert_eq!(given, Recall { entries: entries(&["9", "3-7", "9"]), list: None });
-        assert_eq!(target, Target::Replaced("b".into()));
+        assert_eq!(target, file("b", true));
         let (given, target) = recall("remove --list l a 2 --in-place --line");
         assert_eq!(given, Recall { entries: entries(&["2"]), list: list() });
         assert_eq!(target, Target::InPlace("a".into()));
@@ -568,6 +624,10 @@ mod tests {
             "read a -o b -o c",
             "read a -o b --in-place",
             "read a -o - --line",
+            "read a -o - --mode 640",
+            "read a -o b --mode 640 --mode 640",
+            "check a --mode 640",
+            "alter a 1 1.00 --in-place --mode 640",
             "alter a 1 1.00",
             "alter a 1 1.00 -o b --in-place",
             "alter a 1 1.00 --in-place --force",

@@ -8,14 +8,20 @@ use std::time::{Duration, Instant};
 const PATIENCE: Duration = Duration::from_secs(1);
 const CLEARED: &str = "\r\x1b[K";
 
+/// Does the work, and speaks of it on the terminal if it takes long.
+pub fn watched<T>(doing: &str, name: &str, work: impl FnOnce() -> T) -> T {
+    let _progress = Progress::of(format!("ach: {doing} {name}"));
+    work()
+}
+
 /// Says what is being done until it is dropped.
-pub struct Progress {
+struct Progress {
     speaker: Option<(Sender<()>, JoinHandle<()>)>,
 }
 
 impl Progress {
     /// Speaks on standard error, if somebody watches there.
-    pub fn of(what: String) -> Self {
+    fn of(what: String) -> Self {
         if io::stderr().is_terminal() {
             Progress::on(io::stderr(), what, PATIENCE)
         } else {

@@ -1,12 +1,13 @@
 //! Refusals in words that a clerk can act on: where, what stands there, what is due, and whether
 //! the other way of a file may have been meant.
 
-use crate::due::{next_types, Place};
+use crate::due::{next_types, RefusedField};
 use crate::formed;
 use crate::money::spelled;
 use crate::options::Written;
 use crate::recall::Entries;
-use ach::fields::{record_type, COLUMNS, RECORD_TYPES};
+use crate::text::{columns, plain_text};
+use ach::fields::{record_type, COLUMNS};
 use ach::{Refusal, Way};
 
 /// Where a refused thing stands, what it is, what it should be, and what may help; empty lines are
@@ -257,19 +258,9 @@ fn shape(table: &[u8]) -> Explanation {
     explanation
 }
 
-/// The refused field and what is before it; nothing if no field is named or it is not there.
-pub fn place_of(way: Way, file: &[u8], refusal: Refusal) -> Option<Place<'_>> {
-    let start = (refusal.record as usize).checked_sub(1)?.checked_mul(way.record_length())?;
-    let record = file.get(start..start + COLUMNS)?;
-    // A record that is none has a type all the same: what stands in its first column.
-    let known = record_type(record[0]).filter(|_| refusal.number != 3);
-    let field = known.unwrap_or(&RECORD_TYPES[0]).field(refusal.field)?;
-    Some(Place { way, before: &file[..start], record, field, number: refusal.number })
-}
-
 fn in_records(way: Way, file: &[u8], refusal: Refusal) -> Explanation {
-    if let Some(place) = place_of(way, file, refusal) {
-        let Place { field, record, .. } = place;
+    if let Some(refused) = RefusedField::of(way, file, refusal) {
+        let RefusedField { field, record, .. } = refused;
         return Explanation {
             place: format!(
                 "{}, field {} {}, {}",
@@ -279,7 +270,7 @@ fn in_records(way: Way, file: &[u8], refusal: Refusal) -> Explanation {
                 columns(field.first, field.last)
             ),
             stands: plain_text(field.of(record)),
-            due: place.due().to_string(),
+            due: refused.due().to_string(),
             ..Explanation::default()
         };
     }
@@ -320,35 +311,5 @@ fn record_name(way: Way, file: &[u8], refusal: Refusal) -> String {
         b'6' => format!("record {number}, type 6 {name} {entries}"),
         b'7' => format!("record {number}, type 7 {name} of entry {entries}"),
         _ => format!("record {number}, type {} {name}", char::from(digit)),
-    }
-}
-
-pub fn columns(first: usize, last: usize) -> String {
-    if first == last {
-        format!("column {first}")
-    } else {
-        format!("columns {first}-{last}")
-    }
-}
-
-/// Bytes of a file, in quotes, with those made visible that are no text.
-pub fn plain_text(bytes: &[u8]) -> String {
-    let mut text = String::from("\"");
-    for &byte in bytes {
-        match byte {
-            b' '..=b'~' => text.push(char::from(byte)),
-            _ => text += &format!("\\x{byte:02X}"),
-        }
-    }
-    text + "\""
-}
-
-#[cfg(test)]
-mod tests {
-    use super::*;
-
-    #[test]
-    fn bytes_that_are_no_text_are_made_visible() {
-        assert_eq!(plain_text(b"A \x00\xFF~\n"), "\"A \\x00\\xFF~\\x0A\"");
     }
 }

@@ -2,26 +2,8 @@
 
 mod common;
 
-use common::{fed, Folder, WHOLE, WHOLE_TABLE};
+use common::{fed, refusal_of_total, wrong_total, Folder, WHOLE, WHOLE_TABLE};
 use std::fs;
-
-/// The sample with a cent too much in the total of its batch.
-fn wrong_total() -> Vec<u8> {
-    let mut file = WHOLE.to_vec();
-    file[5 * 94 + 43] = b'1';
-    file
-}
-
-fn refusal_of_total(name: &std::path::Path) -> String {
-    format!(
-        "{}: refused, 21: the total is not the sum of the amounts
-  where  record 6, type 8 batch control, field 6 Total credit amount, columns 33-44
-  stands \"000000012551\"
-  due    \"000000012550\", the sum of the batch's credits
-",
-        name.display()
-    )
-}
 
 #[test]
 fn check() {
@@ -31,7 +13,7 @@ fn check() {
     ach!("check", good).is(0, &format!("{}: {held}\n", good.display()), "");
     ach!("check", good, "--line").is(0, "OK 1 2 1 0 12550\n", "");
     fed(&["check", "-"], WHOLE).is(0, &format!("standard input: {held}\n"), "");
-    let bad = folder.with("bad.ach", &wrong_total());
+    let bad = folder.with("bad.ach", &wrong_total(WHOLE));
     ach!("check", bad).is(1, "", &refusal_of_total(&bad));
     ach!("check", "--line", bad).is(1, "NO 21 6 6\n", "");
     fed(&["check", "-", "--line"], &WHOLE[..94]).is(1, "NO 2 2 0\n", "");
@@ -52,7 +34,7 @@ fn read() {
         std::str::from_utf8(WHOLE_TABLE).unwrap(),
         &format!("standard output: 470 bytes written; {held}\n"),
     );
-    let bad = folder.with("bad.ach", &wrong_total());
+    let bad = folder.with("bad.ach", &wrong_total(WHOLE));
     ach!("read", bad, "-o", folder.path("bad.table")).is(1, "", &refusal_of_total(&bad));
     ach!("read", bad, "-o", folder.path("bad.table"), "--line").is(1, "NO 21 6 6\n", "");
     ach!("read", folder.path("none"), "-o", folder.path("none.table")).fails_with("No such file");
@@ -116,7 +98,7 @@ fn alter() {
     ach!("alter", new, "2", "25.50", "-o", back, "--line").is(0, "OK 1 2 1 0 12550\n", "");
     assert_eq!(fs::read(&back).unwrap(), WHOLE);
 
-    let bad = folder.with("bad.ach", &wrong_total());
+    let bad = folder.with("bad.ach", &wrong_total(WHOLE));
     let nowhere = folder.path("nowhere");
     ach!("alter", bad, "1", "1.00", "-o", nowhere).is(1, "", &refusal_of_total(&bad));
     ach!("alter", good, "1", "0", "-o", nowhere, "--line").is(1, "NO 14 3 6\n", "");
@@ -235,7 +217,7 @@ fn addendum() {
         good.display()
     );
     ach!("addendum", good, "3").is(1, "", &words);
-    let bad = folder.with("bad.ach", &wrong_total());
+    let bad = folder.with("bad.ach", &wrong_total(WHOLE));
     ach!("addendum", bad, "2").is(1, "", &refusal_of_total(&bad));
     ach!("addendum", folder.path("none"), "1").fails_with("No such file");
 }
@@ -275,7 +257,7 @@ batches 1, entries 2, addenda 1
         good.display()
     );
     ach!("show", good).is(0, &page, "");
-    let bad = folder.with("bad.ach", &wrong_total());
+    let bad = folder.with("bad.ach", &wrong_total(WHOLE));
     ach!("show", bad).is(1, "", &refusal_of_total(&bad));
     ach!("show", folder.path("none")).fails_with("No such file");
 }

@@ -2,13 +2,10 @@
 
 mod common;
 
-use common::{fed, Folder, WHOLE};
+use common::{fed, Folder, GAPS, GAPS_LINED, WHOLE};
 use generate::{is_credit, Batch, Random};
 use std::fs;
 use std::path::Path;
-
-const GAPS: &[u8] = include_bytes!("../../../samples/gaps.ach");
-const GAPS_LINED: &[u8] = include_bytes!("../../../samples/gaps-lined.ach");
 
 #[test]
 fn where_a_limit_runs_out() {

@@ -2,30 +2,11 @@
 
 mod common;
 
-use common::{fed, Folder, WHOLE, WHOLE_LINED, WHOLE_TABLE};
+use common::{fed, refusal_of_total, wrong_total, Folder, WHOLE, WHOLE_LINED, WHOLE_TABLE};
 use generate::lines::{lined, with_end};
 use std::fs;
-use std::path::Path;
 
 const HELD: &str = "batches 1, entries 2, addenda 1, debits 0.00, credits 125.50";
-
-/// The lined sample with a cent too much in the total of its batch.
-fn wrong_total() -> Vec<u8> {
-    let mut file = WHOLE_LINED.to_vec();
-    file[5 * 96 + 43] = b'1';
-    file
-}
-
-fn refusal_of_total(name: &Path) -> String {
-    format!(
-        "{}: refused, 21: the total is not the sum of the amounts
-  where  record 6, type 8 batch control, field 6 Total credit amount, columns 33-44
-  stands \"000000012551\"
-  due    \"000000012550\", the sum of the batch's credits
-",
-        name.display()
-    )
-}
 
 #[test]
 fn check() {
@@ -38,7 +19,7 @@ fn check() {
         &format!("standard input: accepted; {HELD}\n"),
         "",
     );
-    let bad = folder.with("bad.ach", &wrong_total());
+    let bad = folder.with("bad.ach", &wrong_total(WHOLE_LINED));
     ach!("check", bad, "--lined").is(1, "", &refusal_of_total(&bad));
     ach!("check", bad, "--lined", "--line").is(1, "NO 21 6 6\n", "");
     fed(&["check", "-", "--line", "--lined"], &WHOLE_LINED[..96]).is(1, "NO 2 2 0\n", "");
@@ -71,23 +52,15 @@ the last one too
     ach!("check", without, "--lined").is(1, "", &words);
     let new = folder.path("new");
     for (file, way) in [(&with_ends, "--"), (&without, "--lined")] {
-        ach!("show", way, file).refused_with(1);
-        ach!("addendum", way, file, "2").refused_with(1);
-        ach!("read", "-o", new, way, file).refused_with(1);
-        ach!("alter", "-o", new, way, file, "1", "2.00").refused_with(1);
-        ach!("alter", "--in-place", way, file, "1", "2.00").refused_with(1);
+        ach!("show", way, file).refused_with("1", "", "");
+        ach!("addendum", way, file, "2").refused_with("1", "", "");
+        ach!("read", "-o", new, way, file).refused_with("1", "", "");
+        ach!("alter", "-o", new, way, file, "1", "2.00").refused_with("1", "", "");
+        ach!("alter", "--in-place", way, file, "1", "2.00").refused_with("1", "", "");
     }
     assert_eq!(fs::read(&with_ends).unwrap(), WHOLE_LINED);
     assert_eq!(fs::read(&without).unwrap(), WHOLE);
     assert_eq!(folder.names(), ["l.ach", "p.ach"]);
-}
-
-impl common::Run {
-    #[track_caller]
-    fn refused_with(&self, number: u8) {
-        assert_eq!((self.status, self.out.as_str()), (1, ""), "{self:?}");
-        assert!(self.err.contains(&format!(": refused, {number}: ")), "{self:?}");
-    }
 }
 
 /// 470 records with line ends have the length of 480 without: the length does not tell.
@@ -221,7 +194,7 @@ fn read_and_write() {
     let said = format!("standard output: 960 bytes written; {HELD}\n");
     ach!("write", table, "-o", "-", "--lined").is(0, lined_text, &said);
 
-    let bad = folder.with("bad.ach", &wrong_total());
+    let bad = folder.with("bad.ach", &wrong_total(WHOLE_LINED));
     ach!("read", bad, "-o", folder.path("t"), "--lined").is(1, "", &refusal_of_total(&bad));
     let mut wrong = WHOLE_TABLE.to_vec();
     wrong[6 + 85 + 6 + 95 + 6 + 93 + 10] = b'7';

@@ -7,6 +7,7 @@ use generate::lists::{fields_of, list_of, quoted};
 use generate::remittances::with_prenotes_for_remittances;
 use std::fs;
 use std::path::PathBuf;
+use std::process::Command;
 
 const FILE_ROW: &[u8] = include_bytes!("../../../samples/team.file-row");
 const BATCH_ROW: &[u8] = include_bytes!("../../../samples/team.batch-row");
@@ -62,19 +63,10 @@ fn import() {
     assert_eq!(fs::read(&table).unwrap(), TABLE);
     desk.import(LIST, &["--line"]).fails_with("there is such a file already; --force");
     desk.import(LIST, &["--line", "--force"]).is(0, "OK 1 4 0 0 426249\n", "");
-    desk.import(b"X", &["--force"]).refused_with("29", "line 1");
+    desk.import(b"X", &["--force"]).refused_with("29", "", "line 1");
     desk.import(b"X", &["--force", "--line"]).is(1, "NO 29 1 0\n", "");
     assert_eq!(fs::read(&table).unwrap(), TABLE);
     assert_eq!(desk.folder.names(), ["batch-row", "file-row", "list.csv", "table"]);
-}
-
-impl Run {
-    #[track_caller]
-    fn refused_with(&self, number: &str, words: &str) {
-        assert_eq!((self.status, self.out.as_str()), (1, ""), "{self:?}");
-        assert!(self.err.contains(&format!(": refused, {number}: ")), "{self:?}");
-        assert!(self.err.contains(words), "{self:?}");
-    }
 }
 
 #[test]
@@ -86,7 +78,7 @@ fn import_from_a_stream_and_to_one() {
     let table = std::str::from_utf8(TABLE).unwrap();
     run.is(0, table, &format!("standard output: 576 bytes written; {HELD}\n"));
     let run = fed(&[&["import", "-", "-o", "-"], rows.as_slice()].concat(), b"\r\n");
-    run.refused_with("29", "standard input: refused");
+    run.refused_with("29", "", "standard input: refused");
 }
 
 #[test]
@@ -112,13 +104,15 @@ fn what_is_not_there() {
 fn export() {
     let folder = Folder::new();
     let (table, list) = (folder.with("good.table", WHOLE_TABLE), folder.path("list.csv"));
-    let held = "batches 1, entries 2, addenda 1, debits 0.00, credits 125.50";
+    let held = "lines 2, debits 0.00, credits 125.50\n  \
+                left out: file header, batch headers 1, traces 2, addenda 1";
     let lines = "\"22\",\"322070381\",\"4410-22871\",\"100.00\",\"E-1001\",\"MARLOWE, ADA\"\r\n\
                  \"22\",\"322070381\",\"009831740\",\"25.50\",\"E-1002\",\"OKAFOR, BEN\"\r\n";
     let said = format!("{}: {} bytes written; {held}\n", list.display(), lines.len());
     ach!("export", table, "-o", list).is(0, &said, "");
     assert_eq!(fs::read(&list).unwrap(), lines.as_bytes());
     ach!("export", table, "-o", list).fails_with("there is such a file already; --force");
+    // The line is that of the table.
     ach!("export", table, "-o", list, "--force", "--line").is(0, "OK 1 2 1 0 12550\n", "");
     let said = format!("standard output: {} bytes written; {held}\n", lines.len());
     fed(&["export", "-", "-o", "-"], WHOLE_TABLE).is(0, lines, &said);
@@ -128,10 +122,37 @@ fn export() {
     let other = folder.path("other.csv");
     let place =
         "record 4, type 6 entry 2, field 4 Check digit, column 12 of the file to be written";
-    ach!("export", bad, "-o", other).refused_with("12", place);
+    ach!("export", bad, "-o", other).refused_with("12", "", place);
     ach!("export", bad, "-o", other, "--line").is(1, "NO 12 4 4\n", "");
-    ach!("export", folder.with("short.table", b"000001"), "-o", other).refused_with("24", "shape");
+    ach!("export", folder.with("short.table", b"000001"), "-o", other)
+        .refused_with("24", "", "shape");
     assert_eq!(folder.names(), ["bad.table", "good.table", "list.csv", "short.table"]);
+}
+
+/// What a list has no fields for is said to be left out, if the table has it.
+#[test]
+fn what_an_export_leaves_out() {
+    let folder = Folder::new();
+    let mut plan = generate::sample();
+    plan.batches[0].entries[1].addendum = None;
+    let said = |plan: &generate::Plan| {
+        let run = ach!(
+            "export",
+            folder.with("table", &plan.table()),
+            "-o",
+            folder.path("list"),
+            "--force"
+        );
+        assert_eq!(run.status, 0, "{run:?}");
+        run.out.lines().nth(1).unwrap().to_string()
+    };
+    assert_eq!(said(&plan), "  left out: file header, batch headers 1, traces 2");
+    plan.batches[0].entries[0].discretionary = "A".into();
+    let mut second = plan.batches[0].clone();
+    second.number += 1;
+    plan.batches.push(second);
+    let expected = "  left out: file header, batch headers 2, traces 4, discretionary data 2";
+    assert_eq!(said(&plan), expected);
 }
 
 /// From lines to a file and back to lines: the six fields of every line are those of the first.
@@ -175,7 +196,7 @@ fn every_list_of_the_samples() {
         if status == 1 {
             let run = desk.import(list, &["--force"]);
             let number = line.split(' ').nth(1).unwrap();
-            run.refused_with(number, "\n  where  line ");
+            run.refused_with(number, "", "\n  where  line ");
             assert!(run.err.contains("\n  stands ") && run.err.contains("\n  due    "), "{name}");
         }
     }
@@ -374,4 +395,34 @@ fn a_list_that_is_too_long_is_not_read() {
     run.fails_with("huge.csv: more than 1000000000 bytes are not read as a list");
     ach!("export", list, "-o", table, "--line").is(1, "NO 24 0 0\n", "");
     assert_eq!(desk.folder.names(), ["batch-row", "file-row", "huge.csv"]);
+}
+
+/// A list whose first line is none is refused for that, and not read to its end; one whose first
+/// line does not end is not read on either. The limit on memory is that of the shell.
+#[test]
+fn a_list_without_hope_is_left_early() {
+    let desk = Desk::new();
+    let import = |list: &str, options: &str| {
+        let script =
+            "ulimit -v 300000; exec \"$0\" import \"$1\" --file-row \"$2\" --batch-row \"$3\" $4";
+        let mut shell = Command::new("sh");
+        shell.args(["-c", script, env!("CARGO_BIN_EXE_ach"), list]).args(&desk.rows).arg(options);
+        Run::of(shell.output().unwrap())
+    };
+    let table = desk.folder.path("table");
+    let options = format!("-o {}", table.display());
+    import("/dev/zero", &format!("{options} --line")).is(1, "NO 29 1 0\n", "");
+    import("/dev/zero", &options).refused_with("29", "", "stands \"\\x00\" behind \"\"\n");
+    // A file of the longest length that is read.
+    let zeros = desk.folder.path("zeros");
+    fs::File::create(&zeros).unwrap().set_len(1_000_000_000).unwrap();
+    import(zeros.to_str().unwrap(), &format!("{options} --line")).is(1, "NO 29 1 0\n", "");
+
+    let endless = "7".repeat(3_000_000);
+    let run = desk.import(format!("22,{endless}").as_bytes(), &[]);
+    run.fails_with("list.csv: a first line of more than 1048576 bytes is not read");
+    // A faulty line behind a good one is told by its own number, however much follows.
+    let list = format!("{GOOD}\r\n\0{endless}");
+    desk.import(list.as_bytes(), &["--line"]).is(1, "NO 29 2 0\n", "");
+    assert!(!table.exists());
 }

@@ -2,15 +2,13 @@
 
 mod common;
 
-use common::{fed, Folder, Run, WHOLE};
+use common::{fed, mode, wrong_total, Folder, GAPS, GAPS_LINED, WHOLE};
 use generate::lines::lined;
 use generate::recalls::random_recall;
 use std::fs;
 use std::os::unix::fs::PermissionsExt;
 use std::path::Path;
 
-const GAPS: &[u8] = include_bytes!("../../../samples/gaps.ach");
-const GAPS_LINED: &[u8] = include_bytes!("../../../samples/gaps-lined.ach");
 const RECALLED: &[u8] = include_bytes!("../../../samples/recalled.ach");
 const HELD: &str = "batches 1, entries 2, addenda 0, debits 0.00, credits 3296.10";
 const GONE: &str = "  taken out: batches 1, entries 4, addenda 0, debits 0.00, credits 5710.25\n";
@@ -43,7 +41,7 @@ fn in_place() {
     fs::set_permissions(&file, fs::Permissions::from_mode(0o640)).unwrap();
     ach!("remove", file, "2-3", "5-6", "--in-place").is(0, &said(&file, 940), "");
     assert_eq!(fs::read(&file).unwrap(), RECALLED);
-    assert_eq!(fs::metadata(&file).unwrap().permissions().mode() & 0o7777, 0o640);
+    assert_eq!(mode(&file), 0o640);
     // Numbers are those of the file as it is now.
     ach!("remove", file, "3", "--in-place", "--line").is(1, "NO 25 0 0\n", "");
     ach!("remove", file, "2", "--in-place", "--line").is(0, "OK 1 1 0 0 142050\n", "");
@@ -72,16 +70,8 @@ fn from_a_stream_and_to_one() {
     let text = String::from_utf8(RECALLED.to_vec()).unwrap();
     let said = format!("standard output: 940 bytes written; {HELD}\n{GONE}");
     fed(&["remove", "-", "2", "3", "5", "6", "-o", "-"], GAPS).is(0, &text, &said);
-    fed(&["remove", "-", "7", "-o", "-"], GAPS).refused("25", "standard input", "entry 7\n");
-}
-
-impl Run {
-    #[track_caller]
-    fn refused(&self, number: &str, name: &str, words: &str) {
-        assert_eq!((self.status, self.out.as_str()), (1, ""), "{self:?}");
-        assert!(self.err.starts_with(&format!("{name}: refused, {number}: ")), "{self:?}");
-        assert!(self.err.contains(words), "{self:?}");
-    }
+    let run = fed(&["remove", "-", "7", "-o", "-"], GAPS);
+    run.refused_with("25", "standard input", "entry 7\n");
 }
 
 #[test]
@@ -152,7 +142,7 @@ fn numbers_that_no_entry_has() {
     }
     let list = folder.with("list", b"1\n\n5-9\n");
     let run = ach!("remove", file, "--list", list, "-o", new);
-    run.refused("25", &file.display().to_string(), "entry 7, given as 5-9, line 3 of the list\n");
+    run.refused_with("25", file.to_str().unwrap(), "entry 7, given as 5-9, line 3 of the list\n");
     assert_eq!(folder.names(), ["gaps.ach", "list"]);
 }
 
@@ -178,8 +168,7 @@ fn no_entry_would_be_left() {
 #[test]
 fn a_file_that_is_refused() {
     let folder = Folder::new();
-    let mut wrong = WHOLE.to_vec();
-    wrong[5 * 94 + 43] = b'1';
+    let wrong = wrong_total(WHOLE);
     let (file, new) = (folder.with("bad.ach", &wrong), folder.path("new.ach"));
     let checked = ach!("check", file);
     for entries in ["1", "9", "1-2", "0"] {

@@ -2,23 +2,17 @@
 
 mod common;
 
-use common::{command, fed, Folder, Run, WHOLE, WHOLE_TABLE};
+use common::{as_nobody, command, fed, mode, Folder, Run, WHOLE, WHOLE_TABLE};
 use std::ffi::OsStr;
 use std::fs::{self, File, Permissions};
 use std::io::Write;
 use std::os::unix::ffi::OsStrExt;
 use std::os::unix::fs::{symlink, FileTypeExt, MetadataExt, PermissionsExt};
-use std::os::unix::process::CommandExt;
 use std::path::Path;
 use std::process::{Command, Stdio};
 use std::time::Duration;
 
-const NOBODY: u32 = 65_534;
 const RECORDS_IN_LONGEST: usize = 1_000_000;
-
-fn mode(path: &Path) -> u32 {
-    fs::metadata(path).unwrap().permissions().mode() & 0o7777
-}
 
 #[test]
 fn a_folder_is_no_file() {
@@ -33,23 +27,6 @@ fn a_folder_is_no_file() {
     ach!("read", file, "-o", folder.path("good.ach/table")).fails_with("Not a directory");
     ach!("check", "").fails_with("No such file or directory");
     assert_eq!(folder.names(), ["good.ach", "taken"]);
-}
-
-/// Who may read everything runs the command as somebody who may not.
-fn as_nobody(arguments: &[&OsStr]) -> Option<Run> {
-    let mut unprivileged = command();
-    unprivileged.args(arguments);
-    let may_read_everything = fs::metadata("/proc/self").unwrap().uid() == 0;
-    if may_read_everything {
-        unprivileged.uid(NOBODY).gid(NOBODY);
-    }
-    match unprivileged.output() {
-        Ok(output) => Some(Run::of(output)),
-        Err(error) => {
-            eprintln!("skipped: the command cannot be run as nobody: {error}");
-            None
-        }
-    }
 }
 
 #[test]
@@ -181,21 +158,22 @@ fn a_name_that_would_move_the_cursor() {
     ach!("check", "--\x1b").fails_with("there is no option --\u{FFFD}");
 }
 
-/// Who may not give the file to its group must not let another group read it.
+/// What is not seen, but turns the rest of the line round, is written out.
 #[test]
-fn rights_are_not_given_to_another_group() {
+fn a_name_that_is_seen_as_another() {
     let folder = Folder::new();
-    let file = folder.with("good.ach", WHOLE);
-    fs::set_permissions(&file, Permissions::from_mode(0o664)).unwrap();
-    fs::set_permissions(folder.path(""), Permissions::from_mode(0o777)).unwrap();
-    let alter = ["alter", "--in-place", "FILE", "1", "2.00"].map(OsStr::new);
-    let alter = alter.map(|word| if word == "FILE" { file.as_os_str() } else { word });
-    if let Some(run) = as_nobody(&alter) {
-        assert_eq!(run.status, 0, "{run:?}");
-        let same_group = fs::metadata(&file).unwrap().gid() == 0;
-        let not_root = fs::metadata("/proc/self").unwrap().uid() != 0;
-        assert_eq!(mode(&file), if same_group || not_root { 0o664 } else { 0o604 });
+    let file = folder.with("pay\u{202E}hca.exe", WHOLE);
+    let run = ach!("check", file);
+    assert_eq!(run.status, 0, "{run:?}");
+    assert!(run.out.contains("/pay\\u{202e}hca.exe: accepted"), "{run:?}");
+    for mark in ['\u{200F}', '\u{202A}', '\u{2066}', '\u{2069}', '\u{061C}', '\u{200B}', '\u{2028}']
+    {
+        let words = format!("/none{}: No such file", mark.escape_unicode());
+        ach!("check", folder.path(format!("none{mark}"))).fails_with(&words);
     }
+    // Letters of every script are seen as they are.
+    ach!("check", folder.path("\u{5E9}\u{E9}\u{4ED8}"))
+        .fails_with("/\u{5E9}\u{E9}\u{4ED8}: No such");
 }
 
 #[test]
@@ -227,14 +205,7 @@ fn a_named_pipe() {
     File::options().write(true).open(&pipe).unwrap().write_all(WHOLE).unwrap();
     Run::of(child.unwrap().wait_with_output().unwrap()).is(0, "OK 1 2 1 0 12550\n", "");
 
-    let child = command()
-        .args(["alter".as_ref(), pipe.as_os_str()])
-        .args(["1", "2.00", "--in-place"])
-        .stderr(Stdio::piped())
-        .spawn();
-    File::options().write(true).open(&pipe).unwrap().write_all(WHOLE).unwrap();
-    let run = Run::of(child.unwrap().wait_with_output().unwrap());
-    run.fails_with("only a regular file is altered in place");
+    ach!("alter", pipe, "1", "2.00", "--in-place").fails_with("only a regular file is replaced");
     assert!(fs::metadata(&pipe).unwrap().file_type().is_fifo());
     assert_eq!(folder.names(), ["pipe"]);
 }

@@ -4,13 +4,45 @@
 use std::ffi::OsStr;
 use std::fs;
 use std::io::Write;
+use std::os::unix::fs::{MetadataExt, PermissionsExt};
+use std::os::unix::process::CommandExt;
 use std::path::{Path, PathBuf};
-use std::process::{Command, Output, Stdio};
+use std::process::{Child, Command, Output, Stdio};
 use std::sync::atomic::{AtomicU32, Ordering};
+use std::time::{Duration, Instant};
 
 pub const WHOLE: &[u8] = include_bytes!("../../../../samples/whole.ach");
 pub const WHOLE_LINED: &[u8] = include_bytes!("../../../../samples/whole-lined.ach");
 pub const WHOLE_TABLE: &[u8] = include_bytes!("../../../../samples/whole.table");
+pub const GAPS: &[u8] = include_bytes!("../../../../samples/gaps.ach");
+pub const GAPS_LINED: &[u8] = include_bytes!("../../../../samples/gaps-lined.ach");
+
+/// The sample, plain or lined, with a cent too much in the total of its batch.
+pub fn wrong_total(sample: &[u8]) -> Vec<u8> {
+    let mut file = sample.to_vec();
+    let record = file.len() / 10;
+    file[5 * record + 43] = b'1';
+    file
+}
+
+/// The words for that file.
+pub fn refusal_of_total(name: &Path) -> String {
+    format!(
+        "{}: refused, 21: the total is not the sum of the amounts
+  where  record 6, type 8 batch control, field 6 Total credit amount, columns 33-44
+  stands \"000000012551\"
+  due    \"000000012550\", the sum of the batch's credits
+",
+        name.display()
+    )
+}
+
+/// The permissions of a file.
+pub fn mode(path: &Path) -> u32 {
+    fs::metadata(path).unwrap().permissions().mode() & 0o7777
+}
+
+const NOBODY: u32 = 65_534;
 
 /// A folder that is removed with all that is in it.
 pub struct Folder(PathBuf);
@@ -75,6 +107,15 @@ impl Run {
         assert_eq!((self.status, self.out.as_str(), self.err.as_str()), (status, out, err));
     }
 
+    /// The status is 1, nothing is on standard output, and standard error has this number for what
+    /// has this name, and these words.
+    #[track_caller]
+    pub fn refused_with(&self, number: &str, name: &str, words: &str) {
+        assert_eq!((self.status, self.out.as_str()), (1, ""), "{self:?}");
+        assert!(self.err.contains(&format!("{name}: refused, {number}: ")), "{self:?}");
+        assert!(self.err.contains(words), "{self:?}");
+    }
+
     /// The status is 2, nothing is on standard output, and standard error says this.
     #[track_caller]
     pub fn fails_with(&self, words: &str) {
@@ -93,12 +134,73 @@ pub fn ach<I: IntoIterator<Item = A>, A: AsRef<OsStr>>(arguments: I) -> Run {
     Run::of(command().args(arguments).output().unwrap())
 }
 
+/// The command under calls of the system that are slow or refused: see `slow.c`.
+pub struct Slow {
+    folder: Folder,
+    calls: &'static str,
+}
+
+impl Slow {
+    pub fn new(calls: &'static str) -> Self {
+        let folder = Folder::new();
+        let source = concat!(env!("CARGO_MANIFEST_DIR"), "/tests/common/slow.c");
+        let mut compiler = Command::new("cc");
+        compiler.args(["-shared", "-fPIC", source, "-o"]).arg(folder.path("slow.so"));
+        assert!(compiler.status().unwrap().success());
+        Slow { folder, calls }
+    }
+
+    pub fn command(&self) -> Command {
+        let mut command = command();
+        command.env("LD_PRELOAD", self.folder.path("slow.so"));
+        command.env("SLOW", self.calls).env("MARK", self.folder.path("mark"));
+        command.stdout(Stdio::piped()).stderr(Stdio::piped());
+        command
+    }
+
+    /// Starts the command, and does something when it is in the slow call.
+    pub fn during<A: AsRef<OsStr>>(&self, arguments: &[A], act: impl FnOnce(&Child)) -> Output {
+        let child = self.command().args(arguments).spawn().unwrap();
+        let start = Instant::now();
+        while !self.folder.path("mark").exists() {
+            assert!(start.elapsed() < Duration::from_secs(60), "the slow call does not come");
+            std::thread::sleep(Duration::from_millis(1));
+        }
+        act(&child);
+        fs::remove_file(self.folder.path("mark")).unwrap();
+        child.wait_with_output().unwrap()
+    }
+}
+
+pub fn send(signal: &str, child: &Child) {
+    let mut kill = Command::new("sh");
+    kill.args(["-c", "kill -s $0 $1", signal, &child.id().to_string()]);
+    assert!(kill.status().unwrap().success());
+}
+
 /// Arguments of different kinds, as one list.
 #[macro_export]
 macro_rules! ach {
     ($($argument:expr),* $(,)?) => {
         $crate::common::ach([$(::std::ffi::OsString::from(&$argument)),*])
     };
+}
+
+/// Who may read everything runs the command as somebody who may not.
+pub fn as_nobody(arguments: &[&OsStr]) -> Option<Run> {
+    let mut unprivileged = command();
+    unprivileged.args(arguments);
+    let may_read_everything = fs::metadata("/proc/self").unwrap().uid() == 0;
+    if may_read_everything {
+        unprivileged.uid(NOBODY).gid(NOBODY);
+    }
+    match unprivileged.output() {
+        Ok(output) => Some(Run::of(output)),
+        Err(error) => {
+            eprintln!("skipped: the command cannot be run as nobody: {error}");
+            None
+        }
+    }
 }
 
 /// The command with these bytes on standard input.
