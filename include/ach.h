@@ -11,7 +11,8 @@
  * list holds payments as comma lines; it becomes a table by ach_import, and
  * ach_export makes a list of a table's entries. The rows of a file tell how its
  * credits grow from batch to batch; ach_check gives them along with acceptance,
- * and ach_runs_out asks them where a limit is passed.
+ * and ach_runs_out asks them where a limit is passed. A file that is refused for
+ * its controls or fillers alone is put right by ach_mend.
  *
  * Any bytes of any length may be lent, and every function does its own
  * checking. No function keeps anything between calls or allocates memory, so
@@ -88,7 +89,8 @@ extern "C" {
  * second way alone, with field 0: after all fields of its record, and before
  * everything of the next one. The record that 4 names is not looked at. 23 is
  * given last, for bytes as for rows. 27 is given by ach_take_out alone, 34 by
- * ach_alter alone, 29, 30 and 32 by ach_import alone.
+ * ach_alter alone, 29, 30 and 32 by ach_import alone; ach_mend gives 4 for other
+ * records than the rest do.
  *
  * The known codes of entries are
  *
@@ -205,6 +207,51 @@ uint64_t ach_alter(uint64_t way, uint8_t *file, size_t n, uint64_t *rows,
 uint64_t ach_take_out(uint64_t way, uint8_t *file, size_t n,
                       const uint64_t *entries, size_t count, uint64_t *rows,
                       size_t room, uint64_t *length);
+
+/*
+ * The longest list of changes that ach_mend makes: of a million records, all of
+ * them batches of one entry, with nothing right in any control.
+ */
+#define ACH_LONGEST_CHANGES 91999904
+
+/*
+ * Mends a file that is wrong in nothing but its controls and fillers: puts it,
+ * with what the other records call for in their place, into the `room` bytes at
+ * `mended`, and a list of what was changed into the `changes_room` bytes at
+ * `changes`. The n bytes at `file` are only read.
+ *
+ * Replaced are fields 2 to 11 of each batch control, from the nearest batch
+ * header before it and the records between (with no header before it, it
+ * stays); fields 2 to 8 of the file control, which is the first record of type 9
+ * right behind one of type 8, be it a filler; and the fillers, which is all that
+ * stands behind that record. No other record is changed, and no line end but
+ * those of the fillers, which are written afresh.
+ *
+ * Refused: 1 for the length of the file; what the mended file is refused for,
+ * with its records and fields; 4 for the first record behind the file control
+ * that was not 94 nines, also inside its block; 23 if either room is too short.
+ * A file that is accepted is granted and stays as it is.
+ *
+ * Granted, the mended file stands in front of its room and the list in front of
+ * its own, `length` and `changes_length` are how many bytes they have, and the
+ * bytes behind them stay. The list has three sections, each after the number of
+ * its rows in seven digits:
+ *
+ *   a row for each field of a batch control that differs, in the order of the
+ *   file: record number (7 digits), field (2 digits), old text and new text,
+ *   each as long as the field;
+ *   such rows for the file control;
+ *   a row if the number of fillers differs: the old number and the new one, a
+ *   digit each, with '+' for more than nine old ones.
+ *
+ * No change is 21 zeros. A filler that had but a wrong line end is written
+ * afresh and gives no row. n bytes, rounded up to whole blocks of 940 bytes in
+ * the first way or 960 in the second, are always enough room for the mended
+ * file, and n + 78 for the list. A pointer may be null if its length is 0.
+ */
+uint64_t ach_mend(uint64_t way, const uint8_t *file, size_t n, uint8_t *mended,
+                  size_t room, uint64_t *length, uint8_t *changes,
+                  size_t changes_room, uint64_t *changes_length);
 
 /* Where the numbers of ach_runs_out's answer stand. */
 #define ACH_ROWS_UP_TO    0 /* how many rows come up to the one found and with

@@ -1,8 +1,8 @@
 /*
  * Checks a file without line ends and one with CR LF behind every record, asks
- * where a limit runs out, alters one amount and takes one entry out in each,
- * makes a table of a client's list and a list of the table, and prints what the
- * library answers.
+ * where a limit runs out, alters one amount, takes one entry out and mends what
+ * it has spoilt in each, makes a table of a client's list and a list of the
+ * table, and prints what the library answers.
  *
  *     cc -Iinclude host/c/example.c target/staticlib/libach_c.a -o example
  *     ./example samples/whole.ach samples/whole-lined.ach
@@ -125,6 +125,38 @@ static void print_round_trip(uint64_t way, size_t n)
                                                       : "another file");
 }
 
+/* The mended file takes the place of the file; the number of its bytes. */
+static size_t print_mending(uint64_t way, size_t n)
+{
+    static uint8_t mended[ACH_LONGEST_LINED], changes[ACH_LONGEST_CHANGES];
+    uint64_t length, changes_length;
+    uint64_t answer = ach_mend(way, file, n, mended, sizeof mended, &length,
+                               changes, sizeof changes, &changes_length);
+    if (answer != 0) {
+        print_refusal("mend", answer);
+        return n;
+    }
+    printf("mend: %" PRIu64 " bytes for %zu, changes %.*s\n", length, n,
+           (int)changes_length, (const char *)changes);
+    memcpy(file, mended, length);
+    return length;
+}
+
+/* The batch control is record 4 of the ten, and the file control record 5. */
+static void print_mendings(uint64_t way, size_t n)
+{
+    size_t record = n / 10;
+    /* The entry hash of the batch. */
+    memset(file + 3 * record + 10, '0', 10);
+    print_check(way, n);
+    n = print_mending(way, n - 2 * record);
+    print_check(way, n);
+    print_mending(way, n);
+    /* A filler that is none may be anything, and is not mended. */
+    file[9 * record] = ' ';
+    print_mending(way, n);
+}
+
 /* What is asked of both files. */
 static void print_all(uint64_t way, size_t n)
 {
@@ -149,6 +181,7 @@ static void print_all(uint64_t way, size_t n)
     n = print_taking_out(way, n, second, 2);
     print_limit(1, 200000);
     print_check(way, n);
+    print_mendings(way, n);
 }
 
 /*

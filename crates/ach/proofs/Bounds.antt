@@ -8,9 +8,10 @@ use native.Mathlib.Omega.{arith}
 use borrow.Author.Tests.{leb-true}
 use lib.Dec.{lit<, leb, eqb, lit≤}
 use lib.IntN.{ℤ}
-use lib.ListN.{length-map, length}
+use lib.ListN.{length-map, length, take, drop, length-drop}
 use Rattle.text.specs.Decimal.{pick}
 use Rattle.text.specs.Rows.{rows}
+use Rattle.text.specs.Same.{sameBytes}
 use Rattle.text.proofs.DecimalLaws.{and-both}
 use Rattle.text.proofs.RowLaws.{length-rows}
 use Rattle.layout.specs.declared.Fault.{Fault}
@@ -34,7 +35,7 @@ use Rattle.tally.proofs.TallyLaws.{records-next}
 use Rattle.records.proofs.Laws as laws
 use Rattle.records.proofs.Ways.{rows-few}
 use Rattle.layout.specs.Ways.{recordBytes}
-use Rattle.view.specs.View.{View, entriesOf, sumOver, debitOf, creditOf, amountOf, codeIn, fileOf, viewOf}
+use Rattle.view.specs.View.{View, entriesOf, sumOver, debitOf, creditOf, amountOf, codeIn, fileOf, viewOf, fillerRecord}
 use Rattle.view.specs.Table.{shaped, formed, tableOf}
 use Rattle.view.specs.Outcome.{Spot, demand, andThen, room, made, readOf, writeOf, entryAt, exists, spotOf, entryNumber, batchControlNumber, fileControlNumber, within, limits, alterAnswer, altered, addendumAnswer}
 use Rattle.bridge.proofs.Bridge.{accepted-view}
@@ -50,6 +51,7 @@ use Rattle.funds.specs.Outcome.{checkAnswer, given, checkOf}
 use Rattle.relisting.specs.Listed.{alterListedAnswer, alterListedOf}
 use Rattle.without.specs.Without.{without, allExist, takeOutAnswer, shortened, takeOutOf}
 use Rattle.writing.specs.Judge.{writable}
+use Rattle.mending.specs.Mending.{mendedFile, changesOf, nineAt, onlyNines, behindNine, mendOf}
 use Rattle.exporting.specs.Export.{exportOf}
 use Rattle.lining.specs.CommaLines.{exported}
 
@@ -173,6 +175,33 @@ write-low way t file =
     low-made (demand (shaped t) (refusal Fault.Shape 0 0) tried) (formed way t) file
     (low-demand (shaped t) (refusal Fault.Shape 0 0) tried (low-whole Fault.Shape)
     λ h. low-then (checkedOf way (formed way t) .answer) (room (formed way t) file) (file-low way (formed way t)) λ e. low-room (formed way t) file)
+
+-- "4 names the first record behind the 9", which is one of the lent file's
+nines-low : (n : ℕ) (rs : List (List ℕ)) → (0 < length rs → n + length rs ≤ 1000002) → Low (onlyNines n rs)
+unfolding onlyNines
+nines-low n [] l = tt
+nines-low n (r ∷ rs) l =
+    let few : n + length (r ∷ rs) ≤ 1000002 = l (omega arith) in
+    low-demand (sameBytes (take 94 r) fillerRecord) (refusal Fault.Past n 0) (onlyNines (n + 1) rs) (record { field = lit≤ tt; number = omega (arith, few) })
+    λ e. nines-low (n + 1) rs λ h. omega (arith, few)
+
+behind-low : (way : Way) (f : List ℕ) → lengthFits way (length f) ≡ true → Low (behindNine (rawRecords way f))
+behind-low way f h =
+    let w = recordBytes way in
+    let rs = rawRecords way f in
+    let most = leb-true (length f) (w * mostRecords) (and-both (leb 1 (length f) && eqb (length f % w) 0) (leb (length f) (w * mostRecords)) h .1) in
+    let many = length-rows w (length f / w) f in
+    nines-low (nineAt rs + 2) (drop (nineAt rs + 1) rs) λ some. omega (arith, some, length-drop (nineAt rs + 1) rs, many, rows-few way (length f) most)
+
+pub mend-low : (way : Way) (f held list : List ℕ) → Low (mendOf way f held list .gives .answer)
+mend-low way f held list =
+    let checked = checkedOf way (mendedFile way f) .answer in
+    let enough = leb (length (mendedFile way f)) (length held) && leb (length (changesOf way f)) (length list) in
+    let last = demand enough (refusal Fault.Room 0 0) Answer.Granted in
+    low-demand (lengthFits way (length f)) (refusal Fault.Length 0 0) (andThen checked (andThen (behindNine (rawRecords way f)) last)) (low-whole Fault.Length)
+    λ h. low-then checked (andThen (behindNine (rawRecords way f)) last) (file-low way (mendedFile way f))
+    λ e. low-then (behindNine (rawRecords way f)) last (behind-low way f h)
+    λ g. low-demand enough (refusal Fault.Room 0 0) Answer.Granted (low-whole Fault.Room) λ x. tt
 
 pub addendum-low : (way : Way) (f : List ℕ) (k : ℕ) → Low (addendumAnswer way f k)
 addendum-low way f k =

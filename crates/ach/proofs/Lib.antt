@@ -7,6 +7,7 @@ pub mod Demands
 pub mod Runs
 pub mod Money
 pub mod Recalls
+pub mod Mends
 pub mod Idle
 pub mod FieldBack
 pub mod LineBack

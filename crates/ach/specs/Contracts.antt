@@ -18,6 +18,8 @@ use Rattle.comma.specs.Import.{importOf}
 use Rattle.exporting.specs.Export.{exportOf}
 use Rattle.view.specs.Outcome.{readOf, writeOf, addendumAnswer, addendumOf}
 use Rattle.without.specs.Without.{takeOutOf}
+use Rattle.mending.specs.declared.Mended.{Mended}
+use Rattle.mending.specs.Mending.{mendOf}
 
 -- check: the file f, and a lent list that held `held` and then holds `left`
 abbrev pub Checks : Way → List ℕ → List ℕ → Checked → List ℕ → Type 0
@@ -47,6 +49,11 @@ Alters way f held k amount r left rows =
 abbrev pub TakesOut : Way → List ℕ → List ℕ → List ℕ → Made → List ℕ → List ℕ → Type 0
 TakesOut way f ns held r left rows =
     (r ≡ takeOutOf way f ns held .gives) × (left ≡ takeOutOf way f ns held .leaves) × (rows ≡ takeOutOf way f ns held .rows)
+
+-- mend: the file f, which is only read, and two lent buffers that held `held` and `list` and then hold `left` and `changes`
+abbrev pub Mends : Way → List ℕ → List ℕ → List ℕ → Mended → List ℕ → List ℕ → Type 0
+Mends way f held list r left changes =
+    (r ≡ mendOf way f held list .gives) × (left ≡ mendOf way f held list .leaves) × (changes ≡ mendOf way f held list .changes)
 
 -- import: the two rows and the lines of a list, and a lent table that held `held` and then holds `left`
 abbrev pub Imports : List ℕ → List ℕ → List ℕ → List ℕ → Made → List ℕ → Type 0

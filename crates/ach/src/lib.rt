@@ -5,7 +5,8 @@ use layout::Checked;
 use layout::EntryNo;
 use layout::Made;
 use layout::Way;
-ghost use Rattle.ach.specs.Contracts.{Checks, Finds, Reads, Writes, Alters, TakesOut, Imports, Exports, HandsOut, Explains, Spans};
+use mending::Mended;
+ghost use Rattle.ach.specs.Contracts.{Checks, Finds, Reads, Writes, Alters, TakesOut, Mends, Imports, Exports, HandsOut, Explains, Spans};
 
 // A file is accepted exactly if it keeps the rules; else the first refusal is named. Its list, one row a batch, goes to the front of the lent
 // rows, and too few of them are refused last.
@@ -49,6 +50,14 @@ pub fn take_out(way: Way, file: &mut [u8], entries: &[u64], rows: &mut [u64]) ->
     ensures { λ r. ⌜ TakesOut way (now (file .entry)) (now (entries .entry)) (now (rows .entry)) r (now (file .exit)) (now (rows .exit)) ⌝ }
 {
     recalling::take_out(way, file, entries, rows)
+}
+
+// A file whose batch controls, file control and filler are replaced by what its other records call for, written to the front of one lent
+// buffer, and the list of what was changed, written to the front of another.
+pub fn mend(way: Way, file: &[u8], mended: &mut [u8], changes: &mut [u8]) -> Mended
+    ensures { λ r. ⌜ Mends way (now (file .entry)) (now (mended .entry)) (now (changes .entry)) r (now (mended .exit)) (now (changes .exit)) ⌝ }
+{
+    changing::mend(way, file, mended, changes)
 }
 
 // The pay table of a client's comma lines, with the given rows for file and batch, written to the front of the lent table.

@@ -12,11 +12,12 @@ use Rattle.funds.specs.Outcome.{checkOf}
 use Rattle.relisting.specs.Listed.{alterListedOf}
 use Rattle.view.specs.Outcome.{readOf, writeOf, addendumAnswer}
 use Rattle.without.specs.Without.{takeOutOf}
+use Rattle.mending.specs.Mending.{mendOf}
 use Rattle.comma.specs.Import.{importOf}
 use Rattle.exporting.specs.Export.{exportOf}
 use Rattle.bridge.proofs.Answers.{not-granted}
 use Rattle.layout.specs.declared.Way.{Way}
-use Rattle.ach.proofs.Bounds.{Coded, low-coded, import-coded, export-low, check-low, read-low, write-low, alter-low, recall-low, addendum-low}
+use Rattle.ach.proofs.Bounds.{Coded, low-coded, import-coded, export-low, check-low, read-low, write-low, alter-low, recall-low, mend-low, addendum-low}
 use Rattle.told.proofs.Laws.{number-range}
 use Rattle.told.specs.Boundary.{codeOfAnswer}
 
@@ -50,7 +51,7 @@ told (Answer.Refused x) l =
       granted = (λ e. absurd (not-zero _ (x .field) (x .record .0) (n .1) (l .0) (l .1) (n .0) e), not-granted);
     }
 
--- so it is with each of the eight functions that may refuse
+-- so it is with each of the nine functions that may refuse
 pub check-told : (way : Way) (f held : List ℕ) → Told (codeOfAnswer (checkOf way f held .gives .answer)) (checkOf way f held .gives .answer)
 check-told way f held = told (checkOf way f held .gives .answer) (low-coded (checkOf way f held .gives .answer) (check-low way f held))
 
@@ -68,6 +69,9 @@ addendum-told way f k = told (addendumAnswer way f k) (low-coded (addendumAnswer
 
 pub recall-told : (way : Way) (f ns held : List ℕ) → Told (codeOfAnswer (takeOutOf way f ns held .gives .answer)) (takeOutOf way f ns held .gives .answer)
 recall-told way f ns held = told (takeOutOf way f ns held .gives .answer) (low-coded (takeOutOf way f ns held .gives .answer) (recall-low way f ns held))
+
+pub mend-told : (way : Way) (f held list : List ℕ) → Told (codeOfAnswer (mendOf way f held list .gives .answer)) (mendOf way f held list .gives .answer)
+mend-told way f held list = told (mendOf way f held list .gives .answer) (low-coded (mendOf way f held list .gives .answer) (mend-low way f held list))
 
 -- of importing while a line's number is below 2 ^ 32
 pub import-told : (filerow batchrow lines table : List ℕ) → length lines ≤ 4294967295

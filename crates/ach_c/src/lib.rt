@@ -8,7 +8,9 @@ ghost use Rattle.funds.specs.Funds.{runsOut};
 ghost use Rattle.funds.specs.Outcome.{checkOf};
 ghost use Rattle.relisting.specs.Listed.{alterListedOf};
 ghost use Rattle.told.specs.Boundary.{wayOf, codeOfAnswer, numbersOf, numbersLeft, left};
+ghost use Rattle.ach_c.specs.Mended.{TellsMended};
 ghost use Rattle.ach_c.specs.Rows.{rowNumbers};
+ghost use Rattle.mending.specs.Mending.{mendOf};
 ghost use Rattle.comma.specs.Import.{importOf};
 ghost use Rattle.exporting.specs.Export.{exportOf};
 ghost use Rattle.without.specs.Without.{takeOutOf};
@@ -77,6 +79,27 @@ pub extern "C" fn ach_take_out(
 {
     let made = ach::take_out(told::way_of(way), file, entries, rows);
     told::tell_made(made, length)
+}
+
+#[no_mangle]
+pub extern "C" fn ach_mend(
+    way: u64,
+    file: &[u8],
+    mended: &mut [u8],
+    length: &mut u64,
+    changes: &mut [u8],
+    listed: &mut u64,
+) -> u64
+    ensures { λ r. ⌜ TellsMended (mendOf (wayOf way) (now (file .entry)) (now (mended .entry)) (now (changes .entry))) (now (length .entry)) (now (listed .entry)) r (now (mended .exit)) (now (length .exit)) (now (changes .exit)) (now (listed .exit)) ⌝ }
+{
+    let made = ach::mend(told::way_of(way), file, mended, changes);
+    let answer = made.answer;
+    if let Answer::Granted = answer {
+        *length = made.length;
+        *listed = made.listed;
+        return 0;
+    }
+    told::code_of(answer)
 }
 
 #[no_mangle]

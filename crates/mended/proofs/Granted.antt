@@ -21,8 +21,7 @@ use Rattle.records.specs.Run.{runFrom, refused, lengthFits, rawRecords, pieceOf
 use Rattle.view.specs.Outcome.{demand, andThen}
 use Rattle.bridge.proofs.Answers.{demand-granted, then-granted}
 use Rattle.bridge.proofs.BridgeSound.{refused-not}
-use Rattle.mending.specs.declared.Mended.{Mended}
-use Rattle.mending.specs.Mending.{mendedFile, changesOf, behindNine, mendAnswer, doneWith, mendOf, Mends}
+use Rattle.mending.specs.Mending.{mendedFile, changesOf, behindNine, mendAnswer, doneWith, mendOf}
 use Rattle.mended.specs.Kept.{besideControls}
 use Rattle.mended.proofs.Stays.{accepted-stays, mended-accepted, accepted-unchanged}
 use Rattle.mended.proofs.Again.{mended-behind}
@@ -115,16 +114,6 @@ module _ (way : Way) where
   pub mend-refused : (f held listheld : List ℕ) (r : Refusal) → mendAnswer way f (length held) (length listheld) ≡ Answer.Refused r
       → mendOf way f held listheld ≡ record { gives = record { answer = Answer.Refused r; length = 0; listed = 0 }; leaves = held; changes = listheld }
   mend-refused f held listheld r e = ap (λ a. doneWith a (mendedFile way f) (changesOf way f) held listheld) e
-
-  -- every input has an outcome, and one alone
-  pub mend-ends : (f held listheld : List ℕ) → (r : Mended) × (left : List ℕ) × (list : List ℕ) × Mends way f held listheld r left list
-  mend-ends f held listheld =
-      let o = mendOf way f held listheld in
-      (o .gives, o .leaves, o .changes, (refl, refl, refl))
-
-  pub mend-one : (f held listheld left kept list other : List ℕ) (r s : Mended) → Mends way f held listheld r left list → Mends way f held listheld s kept other
-      → (r ≡ s) × (left ≡ kept) × (list ≡ other)
-  mend-one f held listheld left kept list other r s p q = (p .0 ∙ sym (q .0), p .1 ∙ sym (q .1), p .2 ∙ sym (q .2))
 
   -- a grant keeps every record of the lent file that begins with neither 8 nor 9
   pub grant-keeps : (f : List ℕ) (n m : ℕ) → mendAnswer way f n m ≡ Answer.Granted → besideControls (rawRecords way (mendedFile way f)) ≡ besideControls (rawRecords way f)

@@ -54,18 +54,18 @@ refusedWith way fault n k =
     }
 
 -- a count of seven digits
-abbrev count : ℕ → List ℕ
+abbrev pub count : ℕ → List ℕ
 count n = render 7 n
 
 -- a field that differs
-abbrev change : ℕ → ℕ → List ℕ → List ℕ → List ℕ
+abbrev pub change : ℕ → ℕ → List ℕ → List ℕ → List ℕ
 change n k old new = render 7 n ++ (render 2 k ++ (old ++ new))
 
 -- the credits of the first batch are said to be 999 cents
-abbrev total-wrong : Way → List ℕ
+abbrev pub total-wrong : Way → List ℕ
 total-wrong way = damaged way 6 33 (render 12 999) (sent way)
 
-abbrev total-mended : List ℕ
+abbrev pub total-mended : List ℕ
 total-mended = count 1 ++ (change 6 6 (render 12 999) (render 12 100) ++ (count 0 ++ count 0))
 
 -- a field of a filler that takes the place of the 9

@@ -153,8 +153,3 @@ doneWith answer result list held listheld =
 abbrev pub mendOf : Way → List ℕ → List ℕ → List ℕ → Mending
 mendOf way f held listheld =
     doneWith (mendAnswer way f (length held) (length listheld)) (mendedFile way f) (changesOf way f) held listheld
-
--- mending: a file f, which is only read, and lent buffers that held these bytes and then hold `left` and `list`
-abbrev pub Mends : Way → List ℕ → List ℕ → List ℕ → Mended → List ℕ → List ℕ → Type 0
-Mends way f held listheld r left list =
-    (r ≡ mendOf way f held listheld .gives) × (left ≡ mendOf way f held listheld .leaves) × (list ≡ mendOf way f held listheld .changes)

@@ -62,12 +62,15 @@ module _ (way : Way) where
   from-none : (l n : ℕ) → 0 + l ≡ wholeBlock (0 + n) → l ≡ wholeBlock n
   from-none l n e = let a : 0 + l ≡ l = omega arith in let b : 0 + n ≡ n = omega arith in sym a ∙ e ∙ ap wholeBlock b
 
-  pub mended-size : (f : List ℕ) (n : ℕ) → NineAt way f n → length (mendedFile way f) ≡ recordBytes way * (n + 1 + fillersAfter (n + 1))
-  mended-size f n a =
+  -- so many records it has
+  pub mended-records : (f : List ℕ) (n : ℕ) → NineAt way f n → length (mendedRecords way (rawRecords way f)) ≡ n + 1 + fillersAfter (n + 1)
+  mended-records f n a =
       let raw = rawRecords way f in
-      let rs = mendedRecords way raw in
       let counted : length raw ≡ length f / recordBytes way = length-rows (recordBytes way) (length f / recordBytes way) f in
       let in-file : nineAt raw < length raw = omega (arith, counted, a .before, rows-above way n (length f) (a .inside)) in
-      length-joined (recordBytes way) rs (mended-long way 0 (start .sums) (start .header) raw refl (raw-long way f))
-      ∙ ap (λ k. recordBytes way * k) (from-none (length rs) (nineAt raw) (mended-count 0 (start .sums) (start .header) raw in-file))
-      ∙ ap (λ k. recordBytes way * wholeBlock k) (sym (a .before))
+      from-none (length (mendedRecords way raw)) (nineAt raw) (mended-count 0 (start .sums) (start .header) raw in-file) ∙ ap wholeBlock (sym (a .before))
+
+  pub mended-size : (f : List ℕ) (n : ℕ) → NineAt way f n → length (mendedFile way f) ≡ recordBytes way * (n + 1 + fillersAfter (n + 1))
+  mended-size f n a =
+      length-joined (recordBytes way) (mendedRecords way (rawRecords way f)) (mended-long way 0 (start .sums) (start .header) (rawRecords way f) refl (raw-long way f))
+      ∙ ap (λ k. recordBytes way * k) (mended-records f n a)

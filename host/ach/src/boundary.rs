@@ -81,6 +81,21 @@ extern "C" {
         length: *mut u64,
     ) -> u64;
 
+    /// Writes the file with its controls and fillers as the other records call for to `mended`, and
+    /// the list of what was changed to `changes`; their lengths go to `length` and
+    /// `changes_length`.
+    pub fn ach_mend(
+        way: u64,
+        file: *const u8,
+        n: usize,
+        mended: *mut u8,
+        room: usize,
+        length: *mut u64,
+        changes: *mut u8,
+        changes_room: usize,
+        changes_length: *mut u64,
+    ) -> u64;
+
     /// Whether a row in the `n` numbers at `rows` is over the limit, 1 or 0. The three numbers at
     /// `answer` are how many rows come up to the first one and with it, or all of them; its record
     /// number; and its credits.

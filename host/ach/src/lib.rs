@@ -1,5 +1,5 @@
-//! Qalarimo ACH: checking, reading, writing and altering ACH payment files, taking entries out of
-//! them, where their credits pass a limit, and client lists.
+//! Qalarimo ACH: checking, reading, writing, altering and mending ACH payment files, taking entries
+//! out of them, where their credits pass a limit, and client lists.
 //!
 //! The work is done by a proved library, which this crate links as an archive. What is here turns
 //! slices into pointers and numbers into answers, and nothing else. Every function takes any
@@ -11,7 +11,8 @@
 //! spreadsheets export them; it becomes a table by [`import`], and [`export`] makes one of a table.
 //! The *rows* of a file are two numbers for each batch, the record number of its control and the
 //! credits so far in cents. The check gives them ([`check_into`], [`rows_of`]), [`alter`] and
-//! [`take_out`] keep them true, and [`runs_out`] asks them where a limit is passed.
+//! [`take_out`] keep them true, and [`runs_out`] asks them where a limit is passed. A file that
+//! is refused for its controls or fillers alone is put right by [`mend`].
 //!
 //! ```
 //! use ach::Way;
@@ -33,6 +34,7 @@ pub mod boundary;
 pub mod fields;
 mod funds;
 mod lines;
+mod mend;
 mod refusal;
 mod way;
 
@@ -41,6 +43,7 @@ pub use lines::{
     export, export_into, import, import_into, room_for_lines, room_for_table, LineField, BATCH_ROW,
     FILE_ROW, LINE_FIELDS,
 };
+pub use mend::{mend, mend_into, Change, Changes, Fillers, Mended};
 pub use refusal::{reason, Refusal};
 pub use way::Way;
 

@@ -3,6 +3,14 @@
 use crate::fields::COLUMNS;
 
 const MOST_RECORDS: usize = 1_000_000;
+const RECORDS_IN_BLOCK: usize = 10;
+
+/// The changes without a row: three counts of seven digits.
+const EMPTY_CHANGES: usize = 3 * 7;
+/// A changed field takes nine digits and its columns twice; all fields but the first have 93 columns.
+const BATCH_CHANGES: usize = 10 * 9 + 2 * 93;
+/// The seven fields of the file control, and the two numbers of fillers.
+const FILE_CHANGES: usize = 7 * 9 + 2 * 93 + 2;
 
 /// How the records of a file follow one another.
 ///
@@ -93,10 +101,50 @@ impl Way {
     /// # Ok::<(), ach::Refusal>(())
     /// ```
     pub const fn room_for_rows(self, file_length: usize) -> usize {
+        2 * self.most_batches(file_length)
+    }
+
+    /// Room that suffices for the mended file of any file of this length that has one.
+    ///
+    /// ```
+    /// use ach::Way;
+    ///
+    /// assert_eq!(Way::Plain.room_for_mended(7 * 94), 940);
+    /// assert_eq!(Way::Lined.room_for_mended(11 * 96), 1_920);
+    /// assert_eq!(Way::Plain.room_for_mended(usize::MAX), 94_000_000);
+    /// ```
+    pub const fn room_for_mended(self, file_length: usize) -> usize {
+        // No record is put in before the fillers, which fill the last block.
+        self.records(file_length).next_multiple_of(RECORDS_IN_BLOCK) * self.record_length()
+    }
+
+    /// Room that suffices for the list of what is changed when a file of this length is mended.
+    ///
+    /// ```
+    /// use ach::Way;
+    ///
+    /// assert_eq!(Way::Plain.room_for_changes(0), 272);
+    /// assert_eq!(Way::Plain.room_for_changes(8 * 94), 272 + 2 * 276);
+    /// assert_eq!(Way::Lined.room_for_changes(8 * 96), 272 + 2 * 276);
+    /// assert_eq!(Way::Plain.room_for_changes(usize::MAX), 91_999_904);
+    /// ```
+    pub const fn room_for_changes(self, file_length: usize) -> usize {
+        EMPTY_CHANGES + BATCH_CHANGES * self.most_batches(file_length) + FILE_CHANGES
+    }
+
+    /// How many records a file of this length has, if its length is that of a file.
+    const fn records(self, file_length: usize) -> usize {
         let records = file_length / self.record_length();
-        let records = if records < MOST_RECORDS { records } else { MOST_RECORDS };
-        // Beside header and file control, a batch has at least its own two and an entry.
-        2 * (records.saturating_sub(2) / 3)
+        if records < MOST_RECORDS {
+            records
+        } else {
+            MOST_RECORDS
+        }
+    }
+
+    /// Beside header and file control, a batch has at least its own two and an entry.
+    const fn most_batches(self, file_length: usize) -> usize {
+        self.records(file_length).saturating_sub(2) / 3
     }
 
     /// The number that stands for the way at the boundary.

@@ -1,6 +1,7 @@
 //! The proved library on every sample: the line that the index has, and the tables both ways.
 
 use ach::Way;
+use samples::Mending;
 use std::collections::BTreeMap;
 
 /// The files as they lie in the folder, which another test holds equal to these.
@@ -27,7 +28,7 @@ fn every_sample_has_its_line() {
 fn every_table_is_its_files() {
     let files = files();
     let tables: Vec<&String> = files.keys().filter(|name| name.ends_with(".table")).collect();
-    assert_eq!(tables.len(), 13);
+    assert_eq!(tables.len(), 15);
     for name in tables {
         let (table, plain) = (&files[name], &files[&name.replace(".table", ".ach")]);
         let lined = generate::lines::lined(plain);
@@ -48,6 +49,24 @@ fn every_list_has_its_line() {
             .and_then(|table| ach::file_of(Way::Plain, &table))
             .and_then(|file| ach::check(Way::Plain, &file));
         assert_eq!(ach::line(&held), expected, "{name}");
+    }
+}
+
+#[test]
+fn every_refused_sample_is_mended_or_not() {
+    let files = files();
+    for (name, due) in samples::mended_index() {
+        let way = if name.ends_with("-lined.ach") { Way::Lined } else { Way::Plain };
+        match (ach::mend(way, &files[name]), due) {
+            (Ok(given), Mending::Cured { file, changes }) => {
+                assert!(given.file == files[file], "{name}");
+                assert_eq!(given.list, changes.as_bytes(), "{name}");
+            }
+            (Err(refusal), Mending::Refused { line }) => {
+                assert_eq!(ach::line(&Err(refusal)), line, "{name}");
+            }
+            (given, _) => panic!("{name}: {:?}", given.map(|given| given.list)),
+        }
     }
 }
 

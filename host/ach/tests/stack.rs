@@ -15,6 +15,9 @@ const BATCH_ROW: &[u8] = include_bytes!("../../../samples/team.batch-row");
 const LIST: &[u8] = include_bytes!("../../../samples/team.csv");
 const LISTED: &[u8] = include_bytes!("../../../samples/team.table");
 
+/// What is listed where no fillers stood and eight are due.
+const LIST_OF_FILLERS: &[u8] = b"00000000000000000000108";
+
 fn on_little_stack(calls: fn()) {
     let thread = std::thread::Builder::new().stack_size(STACK).spawn(calls).unwrap();
     thread.join().unwrap();
@@ -67,6 +70,17 @@ fn take_out() {
         assert_eq!(&file[..length], RECALLED);
         let mut file = LINED.to_vec();
         assert!(ach::take_out(Way::Lined, &mut file, &[6, 2, 3, 5], &mut rows).is_ok());
+    });
+}
+
+#[test]
+fn mend() {
+    on_little_stack(|| {
+        for (way, file) in [(Way::Plain, FILE), (Way::Lined, LINED)] {
+            let mended = ach::mend(way, &file[..12 * way.record_length()]).unwrap();
+            assert_eq!((mended.file, mended.list), (file.into(), LIST_OF_FILLERS.into()));
+            assert_eq!(ach::mend(way, &file[way.record_length()..]).unwrap_err().number, 3);
+        }
     });
 }
 

@@ -1,10 +1,12 @@
 //! Times the proved library against the independent implementation, both in this process and on
-//! the same file of a million records; rows that say so are on the file with line ends, or on one
-//! whose batches have one entry each. To be built with `--release`.
+//! the same file of a million records; rows that say so are on the file with line ends, on one whose
+//! batches have one entry each, or on one with nothing right in any control. To be built with
+//! `--release`.
 //!
 //! The best of several rounds counts, since whatever else the machine does only adds time. The
 //! rounds of the two sides take turns, so that a slow while hits both.
 
+use generate::controls::without_controls;
 use generate::lines::lined;
 use generate::{big_file, BigFile};
 use std::hint::black_box;
@@ -25,6 +27,10 @@ fn main() {
     alter(&file);
     take_out("take out 4", &file, |entries| (1..=4).map(|fifth| entries * fifth / 5).collect());
     take_out("take out half", &file, |entries| (1..=entries).step_by(2).collect());
+    mend("mend", &file);
+    mend("mend, spoilt", &without_controls(&file, b'#'));
+    let shape = BigFile { records: RECORDS, entries_in_batch: 1, addendum_every: 0 };
+    mend("mend, small", &without_controls(&big_file(&shape), b'#'));
 }
 
 /// The check with the list that it gives, in memory that is lent.
@@ -125,6 +131,23 @@ fn take_out(name: &str, file: &[u8], chosen: impl Fn(u64) -> Vec<u64>) {
         |lent| {
             let way = independent::Way::Plain;
             independent::take_out(way, black_box(lent), &list, &mut other).expect(due)
+        },
+    );
+}
+
+/// Mends a file in order, or one with nothing right in any control, into memory that is lent.
+fn mend(name: &str, file: &[u8]) {
+    let due = "nothing but controls is wrong, and the room suffices";
+    let way = ach::Way::Plain;
+    let rooms =
+        || (vec![0; way.room_for_mended(file.len())], vec![0; way.room_for_changes(file.len())]);
+    let ((mut one, mut one_list), (mut other, mut other_list)) = (rooms(), rooms());
+    race(
+        name,
+        || ach::mend_into(way, black_box(file), &mut one, &mut one_list).expect(due),
+        || {
+            let way = independent::Way::Plain;
+            independent::mend_into(way, black_box(file), &mut other, &mut other_list).expect(due)
         },
     );
 }

@@ -5,16 +5,17 @@ use crate::funds;
 use crate::input::{self, Content, Limits, Stamp};
 use crate::list::{self, FirstLine};
 use crate::list_words::{self, Import, LONGEST_ROW};
+use crate::mend;
 use crate::money::{signed, spelled};
-use crate::options::{Amount, Command, Entry, Recall, Rows, Source, Target, HELP};
-use crate::place::Place;
+use crate::options::{Amount, Command, Entry, Mending, Recall, Rows, Source, Target, HELP};
+use crate::place::{Place, SecondPlace};
 use crate::progress::watched;
 use crate::recall;
 use crate::show;
 use crate::stdout;
 use crate::trouble::{failed, Trouble};
 use crate::words;
-use ach::{Acceptance, Refusal, Way};
+use ach::{Acceptance, Mended, Refusal, Way};
 use std::io::{self, Write};
 
 pub fn run(command: Command) -> Result<(), Trouble> {
@@ -32,6 +33,7 @@ pub fn run(command: Command) -> Result<(), Trouble> {
         Command::Remove { way, file, recall, target, line } => {
             remove(way, &file, recall, &target, line)
         }
+        Command::Mend { way, file, mending, line } => mend(way, &file, &mending, line),
         Command::Addendum { way, file, entry } => addendum(way, &file, &entry),
         Command::Import { list, rows, target, line } => import(&list, &rows, &target, line),
         Command::Export { table, target, line } => export(&table, &target, line),
@@ -295,6 +297,41 @@ fn difference(before: &Acceptance, after: &Acceptance) -> Acceptance {
         credit: before.credit - after.credit,
         by_code: std::array::from_fn(|index| before.by_code[index] - after.by_code[index]),
     }
+}
+
+fn mend(way: Way, file: &Source, mending: &Mending, line: bool) -> Result<(), Trouble> {
+    let Mending::Put { target, changes } = mending else {
+        return mend_dry(way, file, line);
+    };
+    let place = Place::open(target)?;
+    let second = changes.as_deref().map(SecondPlace::open).transpose()?;
+    let loaded = load_file(way, file, line)?;
+    let mended = mended(way, &loaded, line)?;
+    let mut words = written(&place, &held_by(way, &mended.file)?, mended.file.len(), line);
+    if !line {
+        words += &mend::words(&mended.changes(), mended.file == loaded.bytes);
+    }
+    let second = second.map(|second| second.ready(&mended.list)).transpose()?;
+    place.put_with(&mended.file, loaded.stamp, second, &words)
+}
+
+/// Says what mending would change.
+fn mend_dry(way: Way, file: &Source, line: bool) -> Result<(), Trouble> {
+    let loaded = load_file(way, file, line)?;
+    let mended = mended(way, &loaded, line)?;
+    let held = held_by(way, &mended.file)?;
+    if line {
+        return say_line(Ok(held));
+    }
+    let (name, length, held) = (&loaded.name, mended.file.len(), held_words(&held));
+    let changes = mend::words(&mended.changes(), mended.file == loaded.bytes);
+    say(&format!("{name}: nothing written; mended, {length} bytes; {held}\n{changes}"))
+}
+
+fn mended(way: Way, loaded: &Loaded, line: bool) -> Result<Mended, Trouble> {
+    let Loaded { name, bytes, .. } = loaded;
+    watched("mending", name, || ach::mend(way, bytes))
+        .map_err(|refusal| refused(refusal, line, || words::of_mending(way, name, bytes, refusal)))
 }
 
 fn addendum(way: Way, file: &Source, entry: &Entry) -> Result<(), Trouble> {

@@ -1,6 +1,7 @@
 //! What has to stand in a field that was refused, as far as the records before it tell.
 //!
-//! The first refusal is what is being explained, so everything before it is in order.
+//! The first refusal is what is being explained, so everything before it is in order. What is due in
+//! a control is what mending puts there.
 
 use crate::money::{of_digits, spelled};
 use crate::text::plain_text;
@@ -66,11 +67,27 @@ impl<'f> RefusedField<'f> {
             Kind::Date => words("a day from 2000 to 2099, as YYMMDD"),
             Kind::Own(own) => self.own(own),
             Kind::Near(near) => self.near(near),
-            Kind::AsBatch(column) => {
-                let start = usize::from(column) - 1;
-                text(&self.header()[start..start + width], "as in the batch's header")
+            Kind::AsBatch(_) => self.mended("as in the batch's header"),
+            Kind::Total(_) if self.number == 20 => {
+                let most = spelled(LARGEST_TOTAL);
+                words(format!("at most {most}, and the amounts come to more: split the payments"))
             }
-            Kind::Count(sum) | Kind::Hash(sum) | Kind::Total(sum) => self.sum(sum),
+            Kind::Count(sum) | Kind::Hash(sum) | Kind::Total(sum) => self.mended(what_it_says(sum)),
+        }
+    }
+
+    /// What mending puts into a field of a control. A batch control is the last one of a file that
+    /// ends with it, so that nothing behind it matters.
+    fn mended(&self, why: &str) -> Due {
+        let line_end = self.way.line_end();
+        let mut file = [self.before, self.record, line_end].concat();
+        if self.record[0] == b'8' {
+            file.extend([&[b'9'; COLUMNS], line_end].concat());
+        }
+        match ach::mend(self.way, &file) {
+            Ok(mended) => text(self.field.of(&mended.file[self.before.len()..]), why),
+            // A sum is too large, and that is for another field to say.
+            Err(_) => words(why),
         }
     }
 
@@ -151,41 +168,9 @@ impl<'f> RefusedField<'f> {
         words(format!("{bank}, as in the batch's header, and {due}"))
     }
 
-    fn sum(&self, sum: Sum) -> Due {
-        let (value, why) = match sum {
-            Sum::BatchRecords => (count(self.of_batch()), "the batch's entries and addenda"),
-            Sum::FileRecords => (count(self.of_file()), "the file's entries and addenda"),
-            Sum::BatchHash => (hash(self.of_batch()), "the sum of the batch's bank numbers"),
-            Sum::FileHash => (hash(self.of_file()), "the sum of the file's bank numbers"),
-            Sum::BatchDebit => (cents(self.of_batch(), false), "the sum of the batch's debits"),
-            Sum::BatchCredit => (cents(self.of_batch(), true), "the sum of the batch's credits"),
-            Sum::FileDebit => (cents(self.of_file(), false), "the sum of the file's debits"),
-            Sum::FileCredit => (cents(self.of_file(), true), "the sum of the file's credits"),
-            Sum::Batches => (self.records_back(b'5').count() as u64, "the file's batches"),
-            Sum::Blocks => {
-                let records = self.before.len() / self.way.record_length() + 1;
-                (records.div_ceil(10) as u64, "this record's number by ten, rounded up")
-            }
-        };
-        if value > LARGEST_TOTAL {
-            let (sum, most) = (spelled(value), spelled(LARGEST_TOTAL));
-            return words(format!("at most {most}; {why} is {sum}: split the payments"));
-        }
-        let width = self.field.width();
-        text(format!("{value:0width$}"), why)
-    }
-
     /// The header of the batch that the record belongs to.
     fn header(&self) -> &'f [u8] {
         self.records_back(b'5').next().unwrap_or(&[b' '; COLUMNS])
-    }
-
-    fn of_file(&self) -> impl Iterator<Item = &'f [u8]> {
-        self.before.chunks_exact(self.way.record_length())
-    }
-
-    fn of_batch(&self) -> impl Iterator<Item = &'f [u8]> {
-        self.records_back_in_batch()
     }
 
     fn records_back_in_batch(&self) -> impl Iterator<Item = &'f [u8]> {
@@ -198,6 +183,21 @@ impl<'f> RefusedField<'f> {
 
     fn all_back(&self) -> impl Iterator<Item = &'f [u8]> {
         self.before.rchunks_exact(self.way.record_length())
+    }
+}
+
+fn what_it_says(sum: Sum) -> &'static str {
+    match sum {
+        Sum::BatchRecords => "the batch's entries and addenda",
+        Sum::FileRecords => "the file's entries and addenda",
+        Sum::BatchHash => "the sum of the batch's bank numbers",
+        Sum::FileHash => "the sum of the file's bank numbers",
+        Sum::BatchDebit => "the sum of the batch's debits",
+        Sum::BatchCredit => "the sum of the batch's credits",
+        Sum::FileDebit => "the sum of the file's debits",
+        Sum::FileCredit => "the sum of the file's credits",
+        Sum::Batches => "the file's batches",
+        Sum::Blocks => "this record's number by ten, rounded up",
     }
 }
 
@@ -237,28 +237,6 @@ fn part(digit: u8, field: u8, record: &[u8]) -> &[u8] {
 
 fn last(way: Way, records: &[u8]) -> Option<&[u8]> {
     records.rchunks_exact(way.record_length()).next()
-}
-
-fn count<'f>(records: impl Iterator<Item = &'f [u8]>) -> u64 {
-    records.filter(|record| matches!(record[0], b'6' | b'7')).count() as u64
-}
-
-fn entries<'f>(records: impl Iterator<Item = &'f [u8]>) -> impl Iterator<Item = &'f [u8]> {
-    records.filter(|record| record[0] == b'6')
-}
-
-fn hash<'f>(records: impl Iterator<Item = &'f [u8]>) -> u64 {
-    let sum: u64 = entries(records).map(|entry| of_digits(part(b'6', 3, entry))).sum();
-    sum % 10_000_000_000
-}
-
-fn cents<'f>(records: impl Iterator<Item = &'f [u8]>, credit: bool) -> u64 {
-    let of_side = entries(records).filter(|entry| is_credit(part(b'6', 2, entry)) == credit);
-    of_side.map(|entry| of_digits(part(b'6', 6, entry))).sum()
-}
-
-fn is_credit(code: &[u8]) -> bool {
-    matches!(code, b"22" | b"23" | b"24" | b"32" | b"33" | b"34")
 }
 
 fn is_remittance(code: &[u8]) -> bool {

@@ -82,7 +82,8 @@ const ADVICE: [(u8, &str); 32] = [
     (2, "The file ends early. Part of it is missing, or the fillers behind the file control are."),
     (3, "The order is 1, then batches of a 5, entries and an 8, then a 9 and fillers. An entry is a 6,\n\
      with a 7 behind it exactly if its column 79 is 1. There is at least one batch, and none empty."),
-    (4, "Behind the file control only as many fillers stand as make the records a multiple of ten."),
+    (4, "Behind the file control only as many fillers stand as make the records a multiple of ten. To be\n\
+     mended, a file may have more or fewer of them there, but nothing else."),
     (5, "Some columns hold the same in every file; a filler is 94 nines."),
     (6, "Only 0 to 9 may stand here, with zeros in front."),
     (7, "Text has capital letters, digits and signs; account numbers have capital letters, digits and\n\

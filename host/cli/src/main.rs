@@ -1,5 +1,5 @@
-//! `ach`: checks, reads, writes, alters and shows ACH payment files, takes entries out of them, tells
-//! where their credits pass a limit, and takes client lists.
+//! `ach`: checks, reads, writes, alters, mends and shows ACH payment files, takes entries out of them,
+//! tells where their credits pass a limit, and takes client lists.
 //!
 //! All that is decided about a file is decided by the proved library. What is here moves bytes
 //! between files and the library's functions, and puts its answers into words.
@@ -15,6 +15,7 @@ mod input;
 mod list;
 mod list_words;
 mod lock;
+mod mend;
 mod money;
 mod options;
 mod place;

@@ -8,8 +8,8 @@ use std::ffi::OsString;
 use std::path::{Path, PathBuf};
 
 pub const HELP: &str = "\
-ach: checks, reads, writes and alters ACH payment files (PPD and CCD), takes
-entries out of them, tells where their credits pass a limit, and makes pay
+ach: checks, reads, writes, alters and mends ACH payment files (PPD and CCD),
+takes entries out of them, tells where their credits pass a limit, and makes pay
 tables of client lists
 
   ach check FILE                          is the file in order?
@@ -21,6 +21,9 @@ tables of client lists
   ach alter FILE ENTRY AMOUNT --in-place
   ach remove FILE ENTRY.. -o FILE         the file without these entries
   ach remove FILE ENTRY.. --in-place
+  ach mend FILE -o FILE                   the file with its controls and fillers
+  ach mend FILE --in-place                as the other records call for
+  ach mend FILE --dry-run                 what would be changed
   ach addendum FILE ENTRY                 the text of an entry's addendum
   ach import LINES --file-row ROW --batch-row ROW -o TABLE
                                           the pay table of a client's list
@@ -42,6 +45,12 @@ Addenda go with their entries, and a batch that is left empty goes too; traces
 and batch numbers stay, counts, totals and fillers are corrected. At least one
 entry has to be left.
 
+Mending replaces counts, hashes, totals and all else in the controls, and the
+fillers, and prints every change. It believes the entries: where a count or a
+total is changed, a payment may be missing, or be another than was meant. What
+is wrong elsewhere stays refused, and so is anything but nines behind the file
+control.
+
 LINES are comma lines as spreadsheets export them (RFC 4180), without a header
 line: code, routing number, account, amount (1234.56), identification, name. ROW
 is a file that holds one row of a pay table and nothing else: 85 bytes for the
@@ -56,8 +65,12 @@ filled in. A line break at the end of a row's file is NOT stripped: it counts.
   --mode MODE  the permissions of the file behind -o, such as 640; without it a
                new file is for its owner alone (600)
   --list PATH  entries to be removed, beside those on the command line
+  --changes PATH
+               where the list of what was mended goes, as include/ach.h has it:
+               a new file for its owner alone, put with the mended file or not
+  --dry-run    write nothing (mend)
   --line       one line: OK batches entries addenda debit credit (in cents), or
-               NO number record field (check, read, write, alter, remove,
+               NO number record field (check, read, write, alter, remove, mend,
                import, export; for an import's 29, 30 and 32 the line is the
                record, and an export's numbers are those of TABLE); for funds
                OK batches record credits: how many batches come up to the one
@@ -130,6 +143,7 @@ pub enum Command {
     Write { way: Way, table: Source, target: Target, line: bool },
     Alter { way: Way, file: Source, entry: Entry, amount: Amount, target: Target, line: bool },
     Remove { way: Way, file: Source, recall: Recall, target: Target, line: bool },
+    Mend { way: Way, file: Source, mending: Mending, line: bool },
     Addendum { way: Way, file: Source, entry: Entry },
     Import { list: Source, rows: Rows, target: Target, line: bool },
     Export { table: Source, target: Target, line: bool },
@@ -141,6 +155,17 @@ pub enum Command {
 pub struct Recall {
     pub entries: Vec<Entries>,
     pub list: Option<Source>,
+}
+
+/// What becomes of a mended file.
+#[derive(Debug, PartialEq)]
+pub enum Mending {
+    DryRun,
+    /// The file goes to one place, and the list of its changes to another, if that is wanted.
+    Put {
+        target: Target,
+        changes: Option<PathBuf>,
+    },
 }
 
 /// The files that hold the rows of an import.
@@ -170,15 +195,16 @@ struct Given {
 }
 
 /// The options that something follows, and what that is.
-const WITH_VALUE: [(&str, &str); 5] = [
+const WITH_VALUE: [(&str, &str); 6] = [
     ("-o", A_FILE),
     ("--file-row", A_FILE),
     ("--batch-row", A_FILE),
     ("--list", A_FILE),
+    ("--changes", A_FILE),
     ("--mode", "permissions such as 640"),
 ];
 const A_FILE: &str = "the name of a file";
-const FLAGS: [&str; 4] = ["--force", "--in-place", "--line", "--lined"];
+const FLAGS: [&str; 5] = ["--force", "--in-place", "--dry-run", "--line", "--lined"];
 
 pub fn parse(arguments: impl Iterator<Item = OsString>) -> Result<Command, Trouble> {
     let mut given = Given::default();
@@ -280,6 +306,7 @@ impl Given {
             }
             "alter" => self.alter()?,
             "remove" => self.remove()?,
+            "mend" => self.mend()?,
             "addendum" => {
                 let [file, entry] = self.take("FILE ENTRY")?;
                 let entry = entry_number(&entry)?;
@@ -338,6 +365,39 @@ impl Given {
         let target = self.target_for(&file)?;
         let (way, line) = (self.way(), self.flag("--line"));
         Ok(Command::Remove { way, file, recall, target, line })
+    }
+
+    fn mend(&mut self) -> Result<Command, Trouble> {
+        let [file] = self.take("FILE")?;
+        let file = source(&file);
+        let mending = match self.flag("--dry-run") {
+            true => self.dry_run(&file)?,
+            false => self.mending(&file)?,
+        };
+        Ok(Command::Mend { way: self.way(), file, mending, line: self.flag("--line") })
+    }
+
+    fn mending(&mut self, file: &Source) -> Result<Mending, Trouble> {
+        let target = self.target_for(file)?;
+        let changes = match self.value("--changes") {
+            Some(path) if path == "-" => return misused("--changes wants a file and not a stream"),
+            path => path.map(PathBuf::from),
+        };
+        match &target {
+            Target::File { path, .. } | Target::InPlace(path) if changes.as_ref() == Some(path) => {
+                misused("--changes wants a name of its own")
+            }
+            _ => Ok(Mending::Put { target, changes }),
+        }
+    }
+
+    /// Where the result would go need not be said, and if it is, it has to make sense.
+    fn dry_run(&mut self, file: &Source) -> Result<Mending, Trouble> {
+        if self.has_value("-o") || self.has_value("--changes") || self.flags.contains(&"--in-place")
+        {
+            self.mending(file)?;
+        }
+        Ok(Mending::DryRun)
     }
 
     fn way(&mut self) -> Way {
@@ -516,6 +576,9 @@ mod tests {
             "alter a 1 1.00 --in-place",
             "remove a 1 2-3 -o b",
             "remove a --list l --in-place",
+            "mend a -o b",
+            "mend a --in-place --changes c",
+            "mend a --dry-run",
             "addendum a 1",
         ] {
             assert_eq!(parsed(words).unwrap().way(), Some(Way::Plain), "{words}");
@@ -535,6 +598,7 @@ mod tests {
                 | Command::Write { way, .. }
                 | Command::Alter { way, .. }
                 | Command::Remove { way, .. }
+                | Command::Mend { way, .. }
                 | Command::Addendum { way, .. } => Some(*way),
                 Command::Import { .. }
                 | Command::Export { .. }
@@ -599,6 +663,25 @@ mod tests {
     }
 
     #[test]
+    fn files_to_be_mended() {
+        let mending = |words: &str| match parsed(words) {
+            Ok(Command::Mend { mending, .. }) => mending,
+            other => panic!("{words}: {other:?}"),
+        };
+        let put = |target, changes: Option<&str>| {
+            let changes = changes.map(PathBuf::from);
+            Mending::Put { target, changes }
+        };
+        assert_eq!(mending("mend a -o b --force"), put(file("b", true), None));
+        assert_eq!(mending("mend a -o - --changes c"), put(Target::StandardOutput, Some("c")));
+        let in_place = Target::InPlace("a".into());
+        assert_eq!(mending("mend --changes c --in-place a"), put(in_place, Some("c")));
+        for words in ["mend a --dry-run", "mend - --dry-run --line", "mend --dry-run -o b a"] {
+            assert_eq!(mending(words), Mending::DryRun, "{words}");
+        }
+    }
+
+    #[test]
     fn what_makes_no_sense_is_misuse() {
         for words in [
             "",
@@ -653,6 +736,25 @@ mod tests {
             "remove a --list l --list l -o b",
             "remove a 1 -o - --line",
             "alter a 1 1.00 -o b --list l",
+            "mend",
+            "mend a",
+            "mend a b -o c",
+            "mend a -o b --in-place",
+            "mend a --in-place --force",
+            "mend - --in-place",
+            "mend a --changes c",
+            "mend a -o b --changes b",
+            "mend a --in-place --changes a",
+            "mend a -o b --changes -",
+            "mend a -o b --changes",
+            "mend a -o b --changes c --changes c",
+            "mend a -o - --line",
+            "mend a --dry-run --changes c",
+            "mend a --dry-run --force",
+            "mend a --dry-run -o b --in-place",
+            "check a --dry-run",
+            "remove a 1 -o b --changes c",
+            "alter a 1 1.00 -o b --dry-run",
             "addendum a",
             "addendum a one",
             "import a -o b",

@@ -9,7 +9,7 @@ use crate::lock::Locked;
 use crate::options::Target;
 use crate::progress::watched;
 use crate::stdout;
-use crate::temporary::{folder_of, leftovers, Temporary};
+use crate::temporary::{folder_of, heed_signals, leftovers, Temporary};
 use crate::trouble::{failed, plain, shown, warn, with_path, Trouble};
 use std::fs::{self, File, Metadata, Permissions};
 use std::io::{self, ErrorKind, Write};
@@ -29,6 +29,10 @@ pub struct Place {
 
 enum Goal {
     StandardOutput,
+    File(Spot),
+}
+
+enum Spot {
     /// Nothing is there.
     Free {
         path: PathBuf,
@@ -45,9 +49,13 @@ enum Goal {
 impl Place {
     /// Refuses what is plainly no place for the result, and locks the file that it replaces.
     pub fn open(target: &Target) -> Result<Self, Trouble> {
-        let goal = Goal::of(target)?;
-        if let Some(path) = goal.path() {
-            tell_of_leftovers(path);
+        let goal = match target {
+            Target::StandardOutput => Goal::StandardOutput,
+            Target::File { path, force, mode } => Goal::File(Spot::of(path, *force, *mode)?),
+            Target::InPlace(path) => Goal::File(Spot::in_place(path)?),
+        };
+        if let Goal::File(spot) = &goal {
+            tell_of_leftovers(spot.path());
         }
         Ok(Place { name: target.name(), goal })
     }
@@ -60,38 +68,110 @@ impl Place {
     /// the result was made of. Only what cannot be put is trouble: words that nobody hears do not
     /// undo what was done.
     pub fn put(self, bytes: &[u8], read: Option<Stamp>, words: &str) -> Result<(), Trouble> {
+        self.put_with(bytes, read, None, words)
+    }
+
+    /// As `put`, with a second result, which goes to a name that is free: both or none of them. The
+    /// second gets its name first, so that nobody has the first without it.
+    pub fn put_with(
+        self,
+        bytes: &[u8],
+        read: Option<Stamp>,
+        second: Option<Ready>,
+        words: &str,
+    ) -> Result<(), Trouble> {
         match self.goal {
             Goal::StandardOutput => {
                 watched("writing", &self.name, || stdout::write(bytes))?;
+                second.map_or(Ok(()), |second| second.put(None))?;
                 let _ = io::stderr().lock().write_all(words.as_bytes());
-                return Ok(());
             }
-            Goal::Free { path, mode, force } => put_new(&path, mode, force, bytes)?,
-            Goal::Taken { old, mode, in_place } => {
-                let same = || still_the_same(&old, read, in_place);
-                replace(&old, mode, bytes, same)?;
+            Goal::File(spot) => {
+                let result = spot.ready(bytes)?;
+                match second {
+                    None => result.put(read)?,
+                    Some(second) => result.put_behind(second, read)?,
+                }
+                if let Err(trouble) = stdout::write(words.as_bytes()) {
+                    warn(&format!("{} is written all the same; {trouble}", self.name));
+                }
             }
-        }
-        if let Err(trouble) = stdout::write(words.as_bytes()) {
-            warn(&format!("{} is written all the same; {trouble}", self.name));
         }
         Ok(())
     }
 }
 
-impl Goal {
-    fn of(target: &Target) -> Result<Self, Trouble> {
-        let (path, mode, in_place) = match target {
-            Target::StandardOutput => return Ok(Goal::StandardOutput),
-            Target::File { path, force: false, mode } => return Goal::free(path, *mode),
-            Target::File { path, force: true, mode } => (path, *mode, false),
-            Target::InPlace(path) => (path, None, true),
-        };
+/// The place of a second result: a name that is free.
+pub struct SecondPlace(Spot);
+
+impl SecondPlace {
+    pub fn open(path: &Path) -> Result<Self, Trouble> {
+        if fs::symlink_metadata(path).is_ok() {
+            return failed(format!("{}: there is such a file already, and it stays", shown(path)));
+        }
+        tell_of_leftovers(path);
+        Ok(SecondPlace(Spot::Free { path: path.into(), mode: OWNER_ALONE, force: false }))
+    }
+
+    pub fn ready(self, bytes: &[u8]) -> Result<Ready, Trouble> {
+        self.0.ready(bytes)
+    }
+}
+
+/// A result that is on the disk and wants but its name.
+pub struct Ready {
+    spot: Spot,
+    new: Temporary,
+}
+
+impl Ready {
+    fn put(mut self, read: Option<Stamp>) -> Result<(), Trouble> {
+        heed_signals(&mut [&mut self.new]).map_err(with_path(self.spot.path()))?;
+        self.give_name(read)
+    }
+
+    /// Puts both or none: where this one cannot be put, the other's name is taken back.
+    fn put_behind(mut self, mut other: Ready, read: Option<Stamp>) -> Result<(), Trouble> {
+        let both = &mut [&mut other.new, &mut self.new];
+        heed_signals(both).map_err(with_path(self.spot.path()))?;
+        let name = other.spot.path().to_path_buf();
+        other.give_name(None)?;
+        self.give_name(read).inspect_err(|_| {
+            let _ = fs::remove_file(name);
+        })
+    }
+
+    fn give_name(mut self, read: Option<Stamp>) -> Result<(), Trouble> {
+        match self.spot {
+            Spot::Free { path, force, .. } => put_new(&path, force, self.new),
+            Spot::Taken { old, in_place, .. } => {
+                let metadata = old.metadata()?;
+                still_the_same(&old, read, in_place)?;
+                self.new.put_over().map_err(with_path(&old.path))?;
+                tell_of_changes(&old.path, &metadata, &self.new.file);
+                sync_folder(&old.path);
+                Ok(())
+            }
+        }
+    }
+}
+
+impl Spot {
+    fn of(path: &Path, force: bool, mode: Option<u32>) -> Result<Self, Trouble> {
+        if !force {
+            return Spot::free(path, mode);
+        }
         let real = followed(path)?;
-        match Locked::at(&real)? {
-            Some(old) => Ok(Goal::Taken { old, mode, in_place }),
-            None if in_place => failed(format!("{}: No such file or directory", shown(path))),
-            None => Ok(Goal::Free { path: real, mode: mode.unwrap_or(OWNER_ALONE), force: true }),
+        Ok(match Locked::at(&real)? {
+            Some(old) => Spot::Taken { old, mode, in_place: false },
+            None => Spot::Free { path: real, mode: mode.unwrap_or(OWNER_ALONE), force },
+        })
+    }
+
+    fn in_place(path: &Path) -> Result<Self, Trouble> {
+        match Locked::at(&followed(path)?)? {
+            Some(old) => Ok(Spot::Taken { old, mode: None, in_place: true }),
+            None => failed(format!("{}: No such file or directory", shown(path))),
         }
     }
 
@@ -99,35 +179,31 @@ impl Goal {
         if fs::symlink_metadata(path).is_ok() {
             return taken(path, false);
         }
-        Ok(Goal::Free { path: path.into(), mode: mode.unwrap_or(OWNER_ALONE), force: false })
+        Ok(Spot::Free { path: path.into(), mode: mode.unwrap_or(OWNER_ALONE), force: false })
     }
 
-    fn path(&self) -> Option<&Path> {
+    fn path(&self) -> &Path {
         match self {
-            Goal::StandardOutput => None,
-            Goal::Free { path, .. } => Some(path),
-            Goal::Taken { old, .. } => Some(&old.path),
+            Spot::Free { path, .. } => path,
+            Spot::Taken { old, .. } => &old.path,
         }
     }
+
+    fn ready(self, bytes: &[u8]) -> Result<Ready, Trouble> {
+        let new = match &self {
+            Spot::Free { path, mode, .. } => {
+                filled(path, |_| Permissions::from_mode(*mode), bytes)?
+            }
+            Spot::Taken { old, mode, .. } => {
+                let metadata = old.metadata()?;
+                filled(&old.path, |file| like(&metadata, file, *mode), bytes)?
+            }
+        };
+        Ok(Ready { spot: self, new })
+    }
 }
 
-fn replace(
-    old: &Locked,
-    mode: Option<u32>,
-    bytes: &[u8],
-    look_again: impl FnOnce() -> Result<(), Trouble>,
-) -> Result<(), Trouble> {
-    let metadata = old.metadata()?;
-    let mut new = filled(&old.path, |file| like(&metadata, file, mode), bytes)?;
-    look_again()?;
-    new.put_over().map_err(with_path(&old.path))?;
-    tell_of_changes(&old.path, &metadata, &new.file);
-    sync_folder(&old.path);
-    Ok(())
-}
-
-fn put_new(path: &Path, mode: u32, force: bool, bytes: &[u8]) -> Result<(), Trouble> {
-    let mut new = filled(path, |_| Permissions::from_mode(mode), bytes)?;
+fn put_new(path: &Path, force: bool, mut new: Temporary) -> Result<(), Trouble> {
     match new.put_new() {
         Ok(()) => {}
         Err(error) if error.kind() == ErrorKind::AlreadyExists => return taken(path, force),

@@ -41,7 +41,6 @@ impl Temporary {
     /// Puts it where nothing is. A link, unlike a renaming, never replaces a file, not even one that
     /// has just appeared.
     pub fn put_new(&mut self) -> io::Result<()> {
-        self.heed_signals()?;
         match &self.name {
             None => system::give_name(&self.file, &self.place),
             Some(name) => fs::hard_link(name, &self.place),
@@ -51,7 +50,6 @@ impl Temporary {
     /// Puts it there whatever is there. It can be renamed only from a name, so it has one between
     /// two calls of the system.
     pub fn put_over(&mut self) -> io::Result<()> {
-        self.heed_signals()?;
         if self.name.is_none() {
             let give_name = |path: &Path| system::give_name(&self.file, path);
             self.name = Some(under_free_name(&self.place, give_name)?.0);
@@ -63,23 +61,25 @@ impl Temporary {
         Ok(())
     }
 
-    /// The last moment for a signal to end the run. From here on they wait until its end, so that
-    /// a run that is ended by one has changed nothing.
-    fn heed_signals(&mut self) -> io::Result<()> {
-        system::hold_signals();
-        if !system::signal_waits() {
-            return Ok(());
-        }
-        self.remove();
-        system::release_signals();
-        Err(io::Error::other("a signal came; nothing was changed"))
-    }
-
     fn remove(&mut self) {
         if let Some(name) = self.name.take() {
             let _ = fs::remove_file(name);
         }
     }
+}
+
+/// The last moment for a signal to end the run, before any of its results is put into its place.
+/// From here on they wait until its end, so that a run that is ended by one has changed nothing.
+pub fn heed_signals(results: &mut [&mut Temporary]) -> io::Result<()> {
+    system::hold_signals();
+    if !system::signal_waits() {
+        return Ok(());
+    }
+    for result in results {
+        result.remove();
+    }
+    system::release_signals();
+    Err(io::Error::other("a signal came; nothing was changed"))
 }
 
 impl Drop for Temporary {

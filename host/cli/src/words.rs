@@ -46,8 +46,30 @@ pub fn of_file(way: Way, name: &str, file: &[u8], refusal: Refusal) -> String {
         26 => line_end(way, file, refusal),
         _ => in_records(way, file, refusal),
     };
-    explanation.hint = hint(way, file);
+    explanation.hint = match hint(way, file) {
+        "" if ach::mend(way, file).is_ok() => {
+            "`ach mend` would bring controls and fillers in line with the other records"
+        }
+        hint => hint,
+    };
     explanation.lines(name, refusal)
+}
+
+/// A refusal to mend: that of the mended file, which differs from the file in its controls and
+/// fillers alone, or what stands in the place of fillers.
+pub fn of_mending(way: Way, name: &str, file: &[u8], refusal: Refusal) -> String {
+    if refusal.number != 4 {
+        return of_file(way, name, file, refusal);
+    }
+    let start = (refusal.record as usize).saturating_sub(1) * way.record_length();
+    let record = file.get(start..start + COLUMNS).unwrap_or_default();
+    Explanation {
+        place: format!("record {}, behind the file control", refusal.record),
+        stands: plain_text(record),
+        due: "a filler of 94 nines, or nothing: other records there are not mended away".into(),
+        ..Explanation::default()
+    }
+    .lines(name, refusal)
 }
 
 /// Whether the other way may have been meant. It is said and not acted upon.

@@ -2,7 +2,9 @@
 
 mod common;
 
-use common::{fed, refusal_of_total, wrong_total, Folder, WHOLE, WHOLE_LINED, WHOLE_TABLE};
+use common::{
+    fed, refusal_of_total, wrong_total, Folder, MEND_HINT, WHOLE, WHOLE_LINED, WHOLE_TABLE,
+};
 use generate::lines::{lined, with_end};
 use std::fs;
 
@@ -115,7 +117,7 @@ fn the_words_for_a_line_end() {
         (10, b"\x00\xFF", "record 10, a filler", "\\x00\\xFF"),
     ] {
         let file = folder.with("bad.ach", &with_end(WHOLE_LINED, record, end));
-        let words = format!(
+        let mut words = format!(
             "{}: refused, 26: the record is not followed by CR LF
   where  {place}, behind column 94
   stands \"{stands}\"
@@ -123,6 +125,9 @@ fn the_words_for_a_line_end() {
 ",
             file.display()
         );
+        if place.ends_with("a filler") {
+            words += MEND_HINT;
+        }
         ach!("check", file, "--lined").is(1, "", &words);
         ach!("show", file, "--lined").is(1, "", &words);
         ach!("addendum", file, "1", "--lined").is(1, "", &words);

@@ -23,7 +23,7 @@ fn the_session_is_real() {
             said += &format!("{line}\n{}", in_shell(command, &folder.path("")));
         }
     }
-    assert_eq!(said.matches("$ ach ").count(), 10);
+    assert_eq!(said.matches("$ ach ").count(), 11);
     assert_eq!(said, session.join("\n") + "\n");
 }
 

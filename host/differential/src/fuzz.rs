@@ -1,4 +1,4 @@
-//! Random and damaged bytes to all nine functions of the boundary for as long as asked: each against
+//! Random and damaged bytes to all ten functions of the boundary for as long as asked: each against
 //! the independent implementation, in memory between guards, and against one another.
 
 use crate::check::numbers_of;
@@ -8,10 +8,11 @@ use crate::rows::{self, Rows};
 use crate::tally::{Outcome, Tally, PATTERN};
 use crate::{ways, Run};
 use ach::boundary::{
-    ach_addendum, ach_alter, ach_check, ach_export, ach_import, ach_read, ach_runs_out,
+    ach_addendum, ach_alter, ach_check, ach_export, ach_import, ach_mend, ach_read, ach_runs_out,
     ach_take_out, ach_write,
 };
 use ach::{Refusal, ACCEPTANCE_LENGTH, BATCH_ROW, FILE_ROW};
+use generate::controls::random_control_damage;
 use generate::damage::{random_damage, resealed, BORDER_BYTES};
 use generate::funds::{limits, other_lists, random_rows};
 use generate::lines::{lined, random_end_damage};
@@ -38,15 +39,43 @@ pub fn compare(run: &Run, tally: &mut Tally) {
 /// A call of the boundary with all that it is given beside the bytes.
 #[derive(Debug)]
 enum Question {
-    Check { rows: Vec<u64> },
-    Read { room: usize },
-    Write { room: usize },
-    Alter { rows: Vec<u64>, entry: u64, amount: u64 },
-    TakeOut { entries: Vec<u64>, rows: Vec<u64> },
-    RunsOut { rows: Vec<u64>, limit: u64 },
-    Addendum { entry: u64 },
-    Import { parts: Parts, room: usize },
-    Export { room: usize },
+    Check {
+        rows: Vec<u64>,
+    },
+    Read {
+        room: usize,
+    },
+    Write {
+        room: usize,
+    },
+    Alter {
+        rows: Vec<u64>,
+        entry: u64,
+        amount: u64,
+    },
+    TakeOut {
+        entries: Vec<u64>,
+        rows: Vec<u64>,
+    },
+    RunsOut {
+        rows: Vec<u64>,
+        limit: u64,
+    },
+    Addendum {
+        entry: u64,
+    },
+    Import {
+        parts: Parts,
+        room: usize,
+    },
+    Export {
+        room: usize,
+    },
+    /// The changes go behind the room for the mended file.
+    Mend {
+        room: usize,
+        changes: usize,
+    },
 }
 
 /// Where the bytes of an import are cut: file row, batch row and lines follow one another.
@@ -89,6 +118,7 @@ impl Question {
             | Question::Write { room }
             | Question::Import { room, .. }
             | Question::Export { room } => *room,
+            Question::Mend { room, changes } => room + changes,
             _ => 0,
         }
     }
@@ -110,8 +140,8 @@ impl Question {
     }
 }
 
-/// All nine, with rooms and numbers around the edges.
-fn questions(random: &mut Random, way: Way, bytes: &[u8]) -> [Question; 9] {
+/// All ten, with rooms and numbers around the edges.
+fn questions(random: &mut Random, way: Way, bytes: &[u8]) -> [Question; 10] {
     let own = independent::rows_of(way, bytes).unwrap_or_default();
     let entries = entries(random, bytes);
     let entry = entry(random, bytes);
@@ -126,7 +156,16 @@ fn questions(random: &mut Random, way: Way, bytes: &[u8]) -> [Question; 9] {
         Question::Addendum { entry },
         Question::Import { parts, room: room(random, import(parts, bytes)) },
         Question::Export { room: room(random, independent::export(bytes)) },
+        mend(random, way, bytes),
     ]
+}
+
+fn mend(random: &mut Random, way: Way, bytes: &[u8]) -> Question {
+    let (file, changes) = match independent::mend(way, bytes) {
+        Ok(mended) => (Ok(mended.file), Ok(mended.changes)),
+        Err(refusal) => (Err(refusal), Err(refusal)),
+    };
+    Question::Mend { room: room(random, file), changes: room(random, changes) }
 }
 
 /// Numbers to be lent for a file's rows: as many as they need, more or less, and mostly nobody's.
@@ -201,7 +240,7 @@ fn input(random: &mut Random, way: Way) -> Vec<u8> {
     let plan = any_plan(random);
     let way = if random.one_in(20) { *random.pick(&Way::BOTH) } else { way };
     let file = |file: Vec<u8>| ways::in_way(way, &file);
-    match random.below(20) {
+    match random.below(22) {
         0 => noise(random, way),
         1 => spliced(random, way, &file(plan.file())),
         2 => flipped(random, &file(plan.file())),
@@ -217,6 +256,7 @@ fn input(random: &mut Random, way: Way) -> Vec<u8> {
         }
         14 => list(random, &plan),
         15..=17 => list(random, &with_prenotes_for_remittances(plan)),
+        18 | 19 => file(random_control_damage(random, &plan.file())),
         _ => file(damaged(random, plan.file())),
     }
 }
@@ -331,6 +371,10 @@ fn put(
                 ach_addendum(way, file, length, *entry, first, first.add(1))
             }
             Question::Export { .. } => ach_export(file, length, space, size, first),
+            Question::Mend { room, changes } => {
+                let (behind, second) = (space.add(*room), first.add(1));
+                ach_mend(way, file, length, space, *room, first, behind, *changes, second)
+            }
             Question::RunsOut { limit, .. } => ach_runs_out(list, list_room, *limit, first),
             Question::TakeOut { entries, .. } => {
                 let (numbers, count) = (entries.as_ptr(), entries.len());
@@ -372,6 +416,11 @@ fn expected(
         Question::Import { parts, .. } => {
             let [file_row, batch_row, lines] = parts.split(bytes);
             independent::import_into(file_row, batch_row, lines, memory).map(length)
+        }
+        Question::Mend { room, .. } => {
+            let (mended, changes) = memory.split_at_mut(*room);
+            independent::mend_into(way, bytes, mended, changes)
+                .map(|(length, listed)| vec![length as u64, listed as u64])
         }
         Question::Alter { entry, amount, .. } => {
             let altered = independent::alter(way, memory, rows, *entry, *amount);
@@ -419,6 +468,7 @@ fn relations(tally: &mut Tally, random: &mut Random, asked: Way, bytes: &[u8]) {
         }
         Err(refusal) => tally.holds("refused alike", bytes, refused_alike(way, bytes, refusal)),
     }
+    tally.holds("mended", bytes, mending_fits(way, bytes, checked.is_ok()));
     if asked == Way::Plain {
         let twin = ach::check(ach::Way::Lined, &lined(bytes));
         tally.holds("the same answer in both ways", bytes, twin == checked);
@@ -440,6 +490,18 @@ fn refused_alike(way: ach::Way, bytes: &[u8], refusal: Refusal) -> bool {
         && ach::take_out(way, &mut lent, &[1], &mut []) == Err(refusal)
         && ach::addendum(way, bytes, 1) == Err(refusal)
         && lent == bytes
+}
+
+/// Mended, a file is accepted; an accepted file stays as it is, and nothing is listed.
+fn mending_fits(way: ach::Way, bytes: &[u8], accepted: bool) -> bool {
+    let Ok(mended) = ach::mend(way, bytes) else {
+        return !accepted;
+    };
+    let again = ach::mend(way, &mended.file);
+    let unchanged = mended.file == bytes && mended.changes().is_empty();
+    unchanged == accepted
+        && ach::check(way, &mended.file).is_ok()
+        && again.is_ok_and(|again| again.file == mended.file && again.changes().is_empty())
 }
 
 /// Altered, a file is accepted, its totals differ by what was said, its rows are its own, and it can

@@ -1,7 +1,7 @@
-//! `differential check | readwrite | alter | takeout | funds | lines | longlines | fuzz SECONDS`: puts
-//! the same cases to the proved library and to the independent implementation, and ends with a line
-//! of how many there were and how many differed. Files are put to them in both ways; the same records
-//! in both ways have to be answered alike.
+//! `differential check | readwrite | alter | takeout | mend | funds | lines | longlines | fuzz SECONDS`:
+//! puts the same cases to the proved library and to the independent implementation, and ends with a
+//! line of how many there were and how many differed. Files are put to them in both ways; the same
+//! records in both ways have to be answered alike.
 //!
 //! ACH_SEED chooses other random cases, ACH_CASES how many of them there are. A fuzz run without
 //! ACH_SEED takes another seed each time, and prints it.
@@ -12,6 +12,7 @@ mod funds;
 mod fuzz;
 mod guard;
 mod lines;
+mod mend;
 mod read_write;
 mod rooms;
 mod rows;
@@ -43,12 +44,13 @@ fn main() -> ExitCode {
         ("readwrite", None) => read_write::compare,
         ("alter", None) => alter::compare,
         ("takeout", None) => take_out::compare,
+        ("mend", None) => mend::compare,
         ("funds", None) => funds::compare,
         ("lines", None) => lines::compare,
         ("longlines", None) => lines::compare_longest,
         ("fuzz", Some(_)) => fuzz::compare,
         _ => {
-            let parts = "check | readwrite | alter | takeout | funds | lines | longlines";
+            let parts = "check | readwrite | alter | takeout | mend | funds | lines | longlines";
             eprintln!("usage: differential {parts} | fuzz SECONDS");
             return ExitCode::from(2);
         }

@@ -5,6 +5,7 @@
 //! controls included, from the values somebody chose.
 
 pub mod columns;
+pub mod controls;
 pub mod damage;
 pub mod funds;
 pub mod lines;

@@ -60,6 +60,19 @@ pub fn eleven() -> Plan {
     plan
 }
 
+/// What mending makes of `eleven` when the last entry of its first batch is lost: in order, and one
+/// person short.
+pub fn mended() -> Plan {
+    eleven().without(&[18])
+}
+
+/// What mending makes of the scope's example when an entry is given a cent more and the totals are not.
+pub fn cent_more() -> Plan {
+    let mut plan = sample();
+    plan.batches[0].entries[0].amount += 1;
+    plan
+}
+
 /// After source document 000: five pensions at 05300021.
 pub fn pension() -> Plan {
     let bank = 5_300_021;

@@ -1,8 +1,8 @@
 //! The files in the folder `samples`: accepted ones after the banks' documents and after the
 //! story, refused ones made from them. What has to be said of each stands in `samples/index`, and
 //! in `samples/index-lined` for files with CR LF behind every record, in `samples/index-lists` for
-//! client lists, and in `samples/index-funds` for limits that run out; all were written from the rules
-//! and by nobody's program.
+//! client lists, in `samples/index-funds` for limits that run out, and in `samples/index-mended` for
+//! refused files that are mended; all were written from the rules and by nobody's program.
 
 mod accepted;
 mod lined;
@@ -36,6 +36,8 @@ fn plans() -> Vec<(&'static str, Plan)> {
     vec![
         ("whole", sample()),
         ("eleven", accepted::eleven()),
+        ("mended", accepted::mended()),
+        ("cent-more", accepted::cent_more()),
         ("pension", accepted::pension()),
         ("loans", accepted::loans()),
         ("vendors", accepted::vendors()),
@@ -74,6 +76,27 @@ pub fn funds_index() -> Vec<(&'static str, &'static str, &'static str)> {
         (name, limit, line)
     };
     entries.into_iter().map(split).collect()
+}
+
+/// Every refused file, and what mending makes of it; the way is that of its name.
+pub fn mended_index() -> Vec<(&'static str, Mending)> {
+    let entries = entries_of(include_str!("../../../samples/index-mended"));
+    let read = |(name, rest): (&'static str, &'static str)| match rest.split_once(' ') {
+        Some(("OK", rest)) => {
+            let (file, changes) = rest.split_once(' ').expect("a file and its changes");
+            (name, Mending::Cured { file, changes })
+        }
+        _ => (name, Mending::Refused { line: rest }),
+    };
+    entries.into_iter().map(read).collect()
+}
+
+/// What mending makes of a file.
+pub enum Mending {
+    /// Another file of the folder, and the list of what was changed.
+    Cured { file: &'static str, changes: &'static str },
+    /// The line of the refusal.
+    Refused { line: &'static str },
 }
 
 fn entries_of(index: &'static str) -> Vec<(&'static str, &'static str)> {

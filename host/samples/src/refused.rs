@@ -1,6 +1,7 @@
 //! Files that are refused, each for one fault.
 
 use crate::{accepted, Sample};
+use generate::controls::without_controls;
 use generate::damage::{resealed, with_field, with_trace, without_record};
 use generate::lines::lined;
 use generate::remittances::{with_entry_class, without_addendum};
@@ -30,6 +31,8 @@ pub fn all() -> Vec<Sample> {
         ("blocks-as-printed", with_field(&accepted::loans().file(), 16, 3, "000001")),
         ("remittance-ppd", with_entry_class(&remittances, 5, "PPD")),
         ("remittance-bare", resealed(&without_addendum(&remittances, 5))),
+        ("controls-blank", without_controls(&accepted::vendors().file()[..7 * RECORD], b' ')),
+        ("control-missing", without_record(&whole, 7)),
         ("hash-as-printed", with_field(&accepted::taxes().file(), 6, 4, "0064404066")),
     ];
     let named = files.map(|(name, bytes)| Sample { name: format!("refused/{name}.ach"), bytes });

@@ -1,7 +1,8 @@
 //! The folder holds what it should, and the independent implementation says what the index says.
 
 use independent::Way;
-use std::collections::BTreeSet;
+use samples::Mending;
+use std::collections::{BTreeMap, BTreeSet};
 use std::fs;
 use std::path::Path;
 
@@ -28,7 +29,8 @@ fn the_files_are_as_they_were_made() {
 fn every_file_is_known() {
     let mut there = names_in("");
     there.extend(names_in("refused/"));
-    for other in ["README.md", "index", "index-lined", "index-lists", "index-funds", "refused"] {
+    let said = ["index", "index-lined", "index-lists", "index-funds", "index-mended"];
+    for other in said.into_iter().chain(["README.md", "refused"]) {
         assert!(there.remove(other), "{other}");
     }
     let made: BTreeSet<String> = samples::all().into_iter().map(|sample| sample.name).collect();
@@ -85,6 +87,29 @@ fn every_limit_has_its_line() {
             Err(refusal) => independent::line(&Err(refusal)),
         };
         assert_eq!(said, line, "{name} {limit}");
+    }
+}
+
+/// Every refused file is there, and what mending makes of it lies in the folder too.
+#[test]
+fn every_refused_file_is_mended_or_not() {
+    let refused = indexes().into_iter().filter(|(.., line)| line.starts_with("NO "));
+    let ways: BTreeMap<&str, Way> = refused.map(|(way, name, _)| (name, way)).collect();
+    let mended = samples::mended_index();
+    let names: BTreeSet<&str> = mended.iter().map(|(name, _)| *name).collect();
+    assert_eq!(names, ways.keys().copied().collect());
+    for (name, due) in mended {
+        let given = independent::mend(ways[name], &content(name));
+        match (given, due) {
+            (Ok(given), Mending::Cured { file, changes }) => {
+                assert!(given.file == content(file), "{name}");
+                assert_eq!(String::from_utf8_lossy(&given.changes), changes, "{name}");
+            }
+            (Err(refusal), Mending::Refused { line }) => {
+                assert_eq!(independent::line(&Err(refusal)), line, "{name}");
+            }
+            (given, _) => panic!("{name}: {:?}", given.map(|given| given.changes)),
+        }
     }
 }
 

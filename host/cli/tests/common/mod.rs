@@ -32,10 +32,14 @@ pub fn refusal_of_total(name: &Path) -> String {
   where  record 6, type 8 batch control, field 6 Total credit amount, columns 33-44
   stands \"000000012551\"
   due    \"000000012550\", the sum of the batch's credits
-",
+{MEND_HINT}",
         name.display()
     )
 }
+
+/// The hint for a file that mending cures.
+pub const MEND_HINT: &str =
+    "  hint   `ach mend` would bring controls and fillers in line with the other records\n";
 
 /// The permissions of a file.
 pub fn mode(path: &Path) -> u32 {

@@ -1,0 +1,5 @@
+pub mod FieldLaws
+pub mod FillerLaws
+pub mod ListLaws
+pub mod MendLaws
+pub mod WholeLaws
