@@ -13,7 +13,6 @@ const bytesOf = (name) => new Uint8Array(readFileSync(new URL(name, top)));
 const linesOf = (name) => readFileSync(new URL(name, top), 'utf8').trimEnd().split('\n');
 const ach = await load(new URL('target/wasm/ach.wasm', top));
 
-const mends = existsSync(new URL('samples/index-mended', top));
 const counts = new Map();
 let differences = 0;
 
@@ -117,7 +116,7 @@ function accepted(way, file, name) {
     const kept = `samples/${name.replace(/(-lined)?\.ach$/, '.table')}`;
     if (existsSync(new URL(kept, top))) expect('read', name, hex(table), hex(bytesOf(kept)));
     everyAddendum(way, file, name);
-    if (mends) mendedIdly(way, file, name);
+    mendedIdly(way, file, name);
     if (file.length > 10_000) return;
     thereAndBack(way, file, name);
     oneOut(way, file, name);
@@ -266,8 +265,7 @@ function mistakes() {
 samples();
 limits();
 lists();
-if (mends) mendings();
-else console.log('wasm: mend is not tried, as there is no samples/index-mended');
+mendings();
 recall();
 vectors(process.argv[2]);
 mistakes();
