@@ -2,7 +2,7 @@
 
 use ach::fields::record_type;
 use ach::{Change, Changes, Fillers, Way};
-use generate::damage::{with_column, with_field, with_record_inserted, without_record};
+use generate::copies::{with_column, with_field, with_record_inserted, without_record};
 use generate::lines::{lined, with_end};
 use generate::{big_file, sample, BigFile, RECORD};
 

@@ -2,9 +2,10 @@
 //! not be made of them.
 
 use ach::{Refusal, Way};
-use generate::damage::{resealed, with_field};
+use generate::copies::with_field;
 use generate::lists::rows_of;
 use generate::remittances::{in_ccd, with_entry_class, without_addendum, REMITTANCES};
+use generate::seal::resealed;
 
 const FILE: &[u8] = include_bytes!("../../../samples/remittances.ach");
 const BARE: &[u8] = include_bytes!("../../../samples/refused/remittance-bare.ach");

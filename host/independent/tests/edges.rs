@@ -3,7 +3,8 @@
 mod common;
 
 use common::alter;
-use generate::damage::{resealed, with_field};
+use generate::copies::with_field;
+use generate::seal::resealed;
 use generate::{near_limit, sample, Entry, Plan};
 use independent::{check, write, Refusal, Way};
 

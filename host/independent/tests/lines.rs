@@ -3,8 +3,10 @@
 mod common;
 
 use common::alter;
-use generate::damage::{random_damage, resealed, with_column, with_field};
+use generate::copies::{with_column, with_field};
+use generate::damage::random_damage;
 use generate::lines::{end_range, lined, random_end_damage, with_end, LINED_RECORD, WRONG_ENDS};
+use generate::seal::resealed;
 use generate::{plan, sample, Plan, Random, RECORD};
 use independent::{addendum, check, read, read_into, write, write_into, Refusal, Way};
 

@@ -1,10 +1,11 @@
 //! Mending: the mended file, the list of changes, and the refusals in their order.
 
 use generate::columns::{field_count, field_range, place, record_range};
-use generate::damage::{
-    field_values, random_damage, with_column, with_field, with_record_doubled,
-    with_record_inserted, with_records_swapped, without_record,
+use generate::copies::{
+    with_column, with_field, with_record_doubled, with_record_inserted, with_records_swapped,
+    without_record,
 };
+use generate::damage::{field_values, random_damage};
 use generate::lines::{lined, random_end_damage, with_end, LINED_RECORD, WRONG_ENDS};
 use generate::remittances::in_ccd;
 use generate::{big_file, near_limit, plan, sample, Batch, BigFile, Entry, Plan, Random, RECORD};

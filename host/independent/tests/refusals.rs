@@ -1,6 +1,6 @@
 //! The order of refusals: place before number, the lower number inside a field.
 
-use generate::damage::{
+use generate::copies::{
     with_column, with_field, with_record_doubled, with_record_inserted, with_records_swapped,
     without_record,
 };

@@ -3,11 +3,13 @@
 mod common;
 
 use common::{alter, take_out};
-use generate::damage::{random_damage, resealed, with_field, without_record};
+use generate::copies::{with_field, without_record};
+use generate::damage::random_damage;
 use generate::lists::rows_of;
 use generate::remittances::{
     in_ccd, of_code, with_entry_class, with_prenotes_for_remittances, without_addendum, REMITTANCES,
 };
+use generate::seal::resealed;
 use generate::{is_credit, is_remittance, plan, sample, Batch, Entry, Random, CODES};
 use independent::{addendum, check, export, import, read, write, Refusal, Way};
 use std::collections::BTreeMap;
