@@ -5,7 +5,7 @@ use crate::copies::with_field;
 use crate::damage::field_values;
 use crate::random::Random;
 
-const FILLER: [u8; RECORD] = [b'9'; RECORD];
+pub const FILLER: [u8; RECORD] = [b'9'; RECORD];
 
 /// The numbers of the batch controls of a file in order, and behind them that of its file control.
 pub fn controls(file: &[u8]) -> Vec<usize> {
