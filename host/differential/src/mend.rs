@@ -9,7 +9,7 @@ use ach::boundary::ach_mend;
 use ach::fields::record_type;
 use ach::{Change, Changes, Fillers};
 use generate::columns::{field_count, place};
-use generate::controls::{controls, random_control_damage, with_fillers, without_controls};
+use generate::controls::{controls, random_control_damage, with_fillers, without_controls, FILLER};
 use generate::copies::{
     with_column, with_field, with_record_doubled, with_record_inserted, with_records_swapped,
     without_record,
@@ -23,7 +23,6 @@ use std::ptr::null_mut;
 /// These come behind some 1,500,000 that are not random.
 const DEFAULT_CASES: u64 = 300_000;
 const MOST_RECORDS: usize = 1_000_000;
-const FILLER: [u8; RECORD] = [b'9'; RECORD];
 
 pub fn compare(run: &Run, tally: &mut Tally) {
     let cases = run.cases.unwrap_or(DEFAULT_CASES);

@@ -10,11 +10,18 @@ mod lists;
 mod refused;
 mod sample;
 
+use std::collections::BTreeMap;
+
 pub use sample::Sample;
 
 /// All files but the index and the explanations.
 pub fn all() -> Vec<Sample> {
     [accepted::all(), refused::all(), lined::all(), lists::all()].into_iter().flatten().collect()
+}
+
+/// The same files by name; a test holds them equal to those in the folder.
+pub fn by_name() -> BTreeMap<String, Vec<u8>> {
+    all().into_iter().map(|sample| (sample.name, sample.bytes)).collect()
 }
 
 /// Every file without line ends that is checked, and the line that has to be printed for it.
