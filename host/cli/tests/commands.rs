@@ -280,48 +280,25 @@ fn every_entry_is_shown_with_its_amount() {
     assert_eq!(lines.next(), None);
 }
 
-#[test]
-fn explain() {
-    for number in (1..=30).chain([32, 34]) {
-        let run = ach!("explain", number.to_string());
-        assert_eq!((run.status, run.err.as_str()), (0, ""));
-        assert!(run.out.starts_with(&format!("{number}: ")), "{run:?}");
-    }
-    ach!("explain", "17").is(
-        0,
-        "17: the batch number does not rise
+/// What is said of some numbers.
+const EXPLANATIONS: [&str; 6] = [
+    "17: the batch number does not rise
 Batch numbers start at 1 or above, and each is greater than the one before.
   5 batch header, field 13 Batch number, columns 88-94
 ",
-        "",
-    );
-    ach!("explain", "26").is(
-        0,
-        "26: the record is not followed by CR LF
+    "26: the record is not followed by CR LF
 With --lined, CR LF (the bytes 0D 0A) stands behind column 94 of every record, fillers too.
 Without --lined there are no line ends, and this number is not given.
 ",
-        "",
-    );
-    ach!("explain", "27").is(
-        0,
-        "27: no entry would be left
+    "27: no entry would be left
 A file has at least one entry, so they cannot all be taken out. To recall every payment of a
 file, do not send it.
 ",
-        "",
-    );
-    ach!("explain", "30").is(
-        0,
-        "30: the amount of the line is not digits, a point and two digits, or is too large
+    "30: the amount of the line is not digits, a point and two digits, or is too large
 The amount of a line is written 1234.56, without signs, blanks or commas.
   line, field 4 amount: digits, a point and two digits, at most 99999999.99
 ",
-        "",
-    );
-    ach!("explain", "32").is(
-        0,
-        "32: the field of the line is too long for its columns
+    "32: the field of the line is too long for its columns
 An entry has so many columns for a field. Blanks count; the quotes around a field do not, and
 a doubled quote in it counts once.
   line, field 1 code: at most 2 characters
@@ -330,16 +307,23 @@ a doubled quote in it counts once.
   line, field 5 identification: at most 15 characters
   line, field 6 name: at most 22 characters
 ",
-        "",
-    );
-    ach!("explain", "34").is(
-        0,
-        "34: the rows lent are not those of the file
+    "34: the rows lent are not those of the file
 With an alteration a program lends the rows of the file: for each batch the record of its control
 and the credits so far. This command takes them from the file, so that it does not see this number.
 ",
-        "",
-    );
+];
+
+#[test]
+fn explain() {
+    for number in (1..=30).chain([32, 34]) {
+        let run = ach!("explain", number.to_string());
+        assert_eq!((run.status, run.err.as_str()), (0, ""));
+        assert!(run.out.starts_with(&format!("{number}: ")), "{run:?}");
+    }
+    for words in EXPLANATIONS {
+        let (number, _) = words.split_once(':').unwrap();
+        ach!("explain", number).is(0, words, "");
+    }
     ach!("explain", "35").fails_with("no refusal has the number 35");
 }
 

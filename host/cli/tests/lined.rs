@@ -238,10 +238,17 @@ fn alter_and_addendum() {
     let back = ach!("alter", new, "2", "25.50", "--in-place", "--lined", "--line");
     back.is(0, "OK 1 2 1 0 12550\n", "");
     assert_eq!(fs::read(&new).unwrap(), WHOLE_LINED);
+    assert_eq!(folder.names(), ["good.ach", "new.ach"]);
+}
+
+#[test]
+fn alter_and_addendum_refused() {
+    let folder = Folder::new();
+    let file = folder.with("pay.ach", WHOLE_LINED);
     for (entry, amount, line) in
         [("1", "0", "NO 14 3 6\n"), ("3", "1.00", "NO 25 0 0\n"), ("0", "1.00", "NO 25 0 0\n")]
     {
-        ach!("alter", new, entry, amount, "--in-place", "--lined", "--line").is(1, line, "");
+        ach!("alter", file, entry, amount, "--in-place", "--lined", "--line").is(1, line, "");
     }
     let words = format!(
         "{}: refused, 14: the amount does not suit the transaction code
@@ -249,19 +256,19 @@ fn alter_and_addendum() {
   stands \"0000010000\"; asked for is 0
   due    ten digits, from 0.01 to 99999999.99
 ",
-        new.display()
+        file.display()
     );
-    ach!("alter", new, "1", "0", "--in-place", "--lined").is(1, "", &words);
+    ach!("alter", file, "1", "0", "--in-place", "--lined").is(1, "", &words);
     let words = format!(
         "{}: refused, 25: there is no entry of this number
   stands entry 3
   due    an entry from 1 to 2
 ",
-        new.display()
+        file.display()
     );
-    ach!("addendum", new, "3", "--lined").is(1, "", &words);
-    assert_eq!(fs::read(&new).unwrap(), WHOLE_LINED);
-    assert_eq!(folder.names(), ["good.ach", "new.ach"]);
+    ach!("addendum", file, "3", "--lined").is(1, "", &words);
+    assert_eq!(fs::read(&file).unwrap(), WHOLE_LINED);
+    assert_eq!(folder.names(), ["pay.ach"]);
 }
 
 #[test]

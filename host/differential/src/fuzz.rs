@@ -383,10 +383,8 @@ fn put(
                 ach_take_out(way, file, length, numbers, count, list, list_room, first)
             }
             Question::Import { parts, .. } => {
-                let [file_row, batch_row, lines] = parts.split(lent.content());
-                let (one, other) = (file_row.as_ptr(), batch_row.as_ptr());
-                let (one_length, other_length) = (file_row.len(), batch_row.len());
-                let (lines, n) = (lines.as_ptr(), lines.len());
+                let [(one, one_length), (other, other_length), (lines, n)] =
+                    parts.split(lent.content()).map(|part| (part.as_ptr(), part.len()));
                 ach_import(one, one_length, other, other_length, lines, n, space, size, first)
             }
             Question::Alter { entry, amount, .. } => {
@@ -408,6 +406,7 @@ fn expected(
     rows: &mut [u64],
 ) -> (u64, [u64; NUMBERS]) {
     let length = |length: usize| vec![length as u64];
+    let pair = |(one, other): (usize, usize)| vec![one as u64, other as u64];
     let outcome = match question {
         Question::Check { .. } => {
             independent::check_into(way, bytes, rows).map(|held| numbers_of(&held).to_vec())
@@ -421,8 +420,7 @@ fn expected(
         }
         Question::Mend { room, .. } => {
             let (mended, changes) = memory.split_at_mut(*room);
-            independent::mend_into(way, bytes, mended, changes)
-                .map(|(length, listed)| vec![length as u64, listed as u64])
+            independent::mend_into(way, bytes, mended, changes).map(pair)
         }
         Question::Alter { entry, amount, .. } => {
             let altered = independent::alter(way, memory, rows, *entry, *amount);
@@ -435,8 +433,7 @@ fn expected(
             let (over, answer) = spelled(independent::runs_out(rows, *limit));
             return (over, first_of(&answer));
         }
-        Question::Addendum { entry } => independent::addendum(way, bytes, *entry)
-            .map(|(start, length)| vec![start as u64, length as u64]),
+        Question::Addendum { entry } => independent::addendum(way, bytes, *entry).map(pair),
     };
     match outcome {
         Ok(given) => (0, first_of(&given)),
