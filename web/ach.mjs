@@ -71,6 +71,11 @@ class Piece {
         return this.counted ? [this.at, BigInt(this.length)] : [this.at];
     }
 
+    /** The number that stands there, or the first one. */
+    get number() {
+        return this.view()[0];
+    }
+
     /** A copy of what stands there. */
     take(length = this.length) {
         return this.view(Number(length)).slice();
@@ -80,6 +85,10 @@ class Piece {
 const given = (type, data) => new Piece(type, data.length, { data });
 const room = (type, length) => new Piece(type, length);
 const numbers = (type, length) => new Piece(type, length, { counted: false });
+const number = () => numbers(BigUint64Array, 1);
+
+/** Room for a file's rows: two numbers for each batch, which takes three records or more. */
+const roomForRows = (file) => room(BigUint64Array, Math.floor(file.length / 141));
 
 const bytes = (value) => {
     if (value instanceof Uint8Array) return given(Uint8Array, value);
@@ -163,7 +172,7 @@ class Library {
     /** Checks a file: its counts and cents, by code as well, and its rows, two numbers a batch. */
     check(way, file) {
         const held = numbers(BigUint64Array, 29);
-        const rows = room(BigUint64Array, Math.floor(file.length / 141));
+        const rows = roomForRows(file);
         return this.#ask('ach_check', [wayWord(way), bytes(file), held, rows], () => {
             const all = held.take();
             const [batches, entries, addenda] = Array.from(all.subarray(0, 3), Number);
@@ -201,8 +210,8 @@ class Library {
 
     /** What a function puts into `space` bytes. */
     #made(name, parts, space) {
-        const [made, length] = [room(Uint8Array, space), numbers(BigUint64Array, 1)];
-        return this.#ask(name, [...parts, made, length], () => made.take(length.take()[0]));
+        const [made, length] = [room(Uint8Array, space), number()];
+        return this.#ask(name, [...parts, made, length], () => made.take(length.number));
     }
 
     /**
@@ -213,17 +222,17 @@ class Library {
         const [altered, list, difference] = [bytes(file), listed(rows), numbers(BigInt64Array, 1)];
         const parts = [wayWord(way), altered, list, word(entry), word(amount), difference];
         return this.#ask('ach_alter', parts, () => {
-            return { file: altered.take(), rows: list.take(), difference: difference.take()[0] };
+            return { file: altered.take(), rows: list.take(), difference: difference.number };
         });
     }
 
     /** The file without some entries, and its rows. Entries are numbers from 1, in any order. */
     takeOut(way, file, entries) {
-        const [left, length] = [bytes(file), numbers(BigUint64Array, 1)];
-        const rows = room(BigUint64Array, Math.floor(file.length / 141));
+        const [left, length] = [bytes(file), number()];
+        const rows = roomForRows(file);
         const gone = listed(BigUint64Array.from(entries, word));
         return this.#ask('ach_take_out', [wayWord(way), left, gone, rows, length], () => {
-            return { file: left.take(length.take()[0]), rows: filled(rows.take()) };
+            return { file: left.take(length.number), rows: filled(rows.take()) };
         });
     }
 
@@ -241,10 +250,10 @@ class Library {
 
     /** Where the addendum of an entry stands in the file, from 0; 0 and 0 where it has none. */
     addendum(way, file, entry) {
-        const [start, length] = [numbers(BigUint64Array, 1), numbers(BigUint64Array, 1)];
+        const [start, length] = [number(), number()];
         const parts = [wayWord(way), bytes(file), word(entry), start, length];
         return this.#ask('ach_addendum', parts, () => {
-            return { start: Number(start.take()[0]), length: Number(length.take()[0]) };
+            return { start: Number(start.number), length: Number(length.number) };
         });
     }
 
@@ -253,11 +262,11 @@ class Library {
         const block = 10 * (way === LINED ? 96 : 94);
         const mended = room(Uint8Array, Math.ceil(file.length / block) * block);
         const changes = room(Uint8Array, file.length + 78);
-        const [length, changesLength] = [numbers(BigUint64Array, 1), numbers(BigUint64Array, 1)];
+        const [length, changesLength] = [number(), number()];
         const parts = [wayWord(way), bytes(file), mended, length, changes, changesLength];
         return this.#ask('ach_mend', parts, () => {
-            const [size, changesSize] = [length.take()[0], changesLength.take()[0]];
-            return { file: mended.take(size), changes: changes.take(changesSize) };
+            const list = changes.take(changesLength.number);
+            return { file: mended.take(length.number), changes: list };
         });
     }
 }

@@ -10,7 +10,8 @@ import { load, Refusal, PLAIN, LINED } from './ach.mjs';
 
 const top = new URL('../', import.meta.url);
 const bytesOf = (name) => new Uint8Array(readFileSync(new URL(name, top)));
-const linesOf = (name) => readFileSync(new URL(name, top), 'utf8').trimEnd().split('\n');
+const linesAt = (place) => readFileSync(place, 'utf8').trimEnd().split('\n');
+const linesOf = (name) => linesAt(new URL(name, top));
 const ach = await load(new URL('target/wasm/ach.wasm', top));
 
 const counts = new Map();
@@ -225,11 +226,10 @@ function vectors(folder) {
         bothWays('vectors', bytesOf(`crates/edges/data/${name}`), name, due[i]);
     });
     if (folder === undefined) return;
-    const read = (name) => readFileSync(`${folder}/${name}`);
-    const expected = read('expected').toString().trimEnd().split('\n');
-    const names = read('names').toString().trimEnd().split('\n');
-    names.forEach((name, i) => {
-        one('vectors of line ends', LINED, new Uint8Array(read(name)), name, expected[i]);
+    const expected = linesAt(`${folder}/expected`);
+    linesAt(`${folder}/names`).forEach((name, i) => {
+        const file = new Uint8Array(readFileSync(`${folder}/${name}`));
+        one('vectors of line ends', LINED, file, name, expected[i]);
     });
 }
 
