@@ -1,33 +1,9 @@
 //! Where the money runs out: a file's rows, and the question that is put to rows.
 
-use crate::{boundary, granted, Acceptance, Refusal, Way, ACCEPTANCE_LENGTH};
-
-/// Checks a file as [`check`](crate::check) does, and puts its rows in front of the ones lent: for
-/// each batch the record number of its control, and the credits so far. What stands behind stays.
-/// [`Way::room_for_rows`] says how much room suffices; too little is refused (23), last.
-///
-/// ```
-/// use ach::Way;
-///
-/// let file = include_bytes!("../../../samples/gaps.ach");
-/// let mut rows = [7; 5];
-/// assert_eq!(ach::check_into(Way::Plain, file, &mut rows)?.batches, 2);
-/// assert_eq!(rows, [7, 684_610, 11, 900_635, 7]);
-/// assert_eq!(ach::check_into(Way::Plain, file, &mut rows[..3]).unwrap_err().number, 23);
-/// # Ok::<(), ach::Refusal>(())
-/// ```
-pub fn check_into(way: Way, file: &[u8], rows: &mut [u64]) -> Result<Acceptance, Refusal> {
-    let mut numbers = [0; ACCEPTANCE_LENGTH];
-    let (bytes, size) = (file.as_ptr(), file.len());
-    let (list, room) = (rows.as_mut_ptr(), rows.len());
-    // SAFETY: the pointers come from slices and an array of the lengths that the boundary is told or
-    // names; those for writing do not overlap the others.
-    let answer =
-        unsafe { boundary::ach_check(way.number(), bytes, size, numbers.as_mut_ptr(), list, room) };
-    granted(answer)?;
-    let [batches, entries, addenda, debit, credit, by_code @ ..] = numbers;
-    Ok(Acceptance { batches, entries, addenda, debit, credit, by_code })
-}
+use crate::boundary;
+use crate::check::check_into;
+use crate::refusal::Refusal;
+use crate::way::Way;
 
 /// The rows of a file, in memory of their own.
 ///

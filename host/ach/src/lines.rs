@@ -1,6 +1,9 @@
 //! Client lists as comma lines: a list becomes a pay table, and a table's entries a list.
 
-use crate::{boundary, granted, in_room_of, Refusal, EMPTY_TABLE, ENTRY_ROW};
+use crate::boundary;
+use crate::refusal::{granted, Refusal};
+use crate::sizes::{BATCH_ROW, EMPTY_TABLE, ENTRY_ROW};
+use crate::table::in_room_of;
 
 /// A field of a line.
 #[derive(Clone, Copy, Debug, PartialEq, Eq)]
@@ -25,13 +28,6 @@ pub const LINE_FIELDS: [LineField; 6] = [
     LineField { name: "identification", width: 15 },
     LineField { name: "name", width: 22 },
 ];
-
-/// How many bytes the file row has: columns 4-34 and 41-94 of record 1.
-pub const FILE_ROW: usize = 85;
-
-/// How many bytes the batch row has: columns 2-75 and 80-94 of record 5, then the batch's number
-/// of entries in six digits, which an import fills in.
-pub const BATCH_ROW: usize = 95;
 
 /// The table of an import without its entries.
 const TABLE_OF_NO_LINES: usize = EMPTY_TABLE + BATCH_ROW;

@@ -1,8 +1,10 @@
 //! Files mended: controls and fillers as the other records call for, and the list of what was
 //! changed.
 
+use crate::boundary;
 use crate::fields::record_type;
-use crate::{boundary, granted, Refusal, Way};
+use crate::refusal::{granted, Refusal};
+use crate::way::Way;
 
 /// A mended file, in memory of its own.
 #[derive(Clone, Debug, PartialEq, Eq)]

@@ -56,6 +56,14 @@ impl fmt::Display for Refusal {
 
 impl std::error::Error for Refusal {}
 
+/// Nothing where the boundary grants what was asked, else the refusal that it spells.
+pub(crate) fn granted(answer: u64) -> Result<(), Refusal> {
+    match answer {
+        0 => Ok(()),
+        _ => Err(Refusal::from_answer(answer)),
+    }
+}
+
 /// What each number means.
 const REASONS: [(u8, &str); 32] = [
     (1, "the length of the file is wrong"),

@@ -1,6 +1,7 @@
 //! The two ways of a file.
 
 use crate::fields::COLUMNS;
+use crate::sizes::EMPTY_TABLE;
 
 const MOST_RECORDS: usize = 1_000_000;
 const RECORDS_IN_BLOCK: usize = 10;
@@ -83,7 +84,7 @@ impl Way {
         // Header, file control and nine fillers, less what twice an empty table gives for them.
         // Twice a row of 93 or 80 bytes is more than its record. Twice a batch's 95 bytes may be
         // two bytes less than its two records, but there is an entry in every batch.
-        let least = 11 * self.record_length() - 2 * crate::EMPTY_TABLE;
+        let least = 11 * self.record_length() - 2 * EMPTY_TABLE;
         let enough = table_length.saturating_mul(2).saturating_add(least);
         enough.min(self.longest_file())
     }

@@ -1,20 +1,21 @@
 //! Where the money runs out, through the safe functions: the rows, the question, and what altering
 //! and taking out make of the rows.
 
+mod common;
+
 use ach::{Refusal, Row, RunsOut, Way};
+use common::GAPS_IN_BOTH_WAYS;
 use generate::funds::{limits, other_lists, random_rows};
 use generate::recalls::random_recall;
 use generate::{plan, Random};
 
-const GAPS: &[u8] = include_bytes!("../../../samples/gaps.ach");
-const GAPS_LINED: &[u8] = include_bytes!("../../../samples/gaps-lined.ach");
 const ROWS: [u64; 4] = [7, 684_610, 11, 900_635];
 const NO_ROOM: Refusal = Refusal::without_place(23);
 const NOT_ITS_ROWS: Refusal = Refusal::without_place(34);
 
 #[test]
 fn the_rows_of_a_sample() {
-    for (way, file) in [(Way::Plain, GAPS), (Way::Lined, GAPS_LINED)] {
+    for (way, file) in GAPS_IN_BOTH_WAYS {
         assert_eq!(ach::rows_of(way, file).as_deref(), Ok(&ROWS[..]));
         for room in 0..9 {
             let mut rows = vec![7; room];
@@ -62,7 +63,7 @@ fn the_question_of_any_numbers() {
 
 #[test]
 fn other_rows_are_refused_before_entry_and_amount() {
-    for (way, file) in [(Way::Plain, GAPS), (Way::Lined, GAPS_LINED)] {
+    for (way, file) in GAPS_IN_BOTH_WAYS {
         for other in other_lists(&ROWS) {
             for (entry, amount) in [(1, 142_050), (1, 0), (0, 1), (7, u64::MAX)] {
                 let (mut lent, mut rows) = (file.to_vec(), other.clone());

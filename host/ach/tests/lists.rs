@@ -1,31 +1,29 @@
 //! Client lists through the safe functions: rows and lines, rooms that suffice, and the way back.
 
+mod common;
+
 use ach::{Refusal, Way};
+use common::{BATCH_ROW, FILE_ROW, LIST, LISTED};
 use generate::lists::{list_of, rows_of, List};
 use generate::remittances::with_prenotes_for_remittances;
 use generate::{plan, sample, Entry, Random};
 
-const FILE_ROW: &[u8] = include_bytes!("../../../samples/team.file-row");
-const BATCH_ROW: &[u8] = include_bytes!("../../../samples/team.batch-row");
-const LIST: &[u8] = include_bytes!("../../../samples/team.csv");
-const TABLE: &[u8] = include_bytes!("../../../samples/team.table");
-
 #[test]
 fn the_list_and_its_table() {
     assert_eq!((FILE_ROW.len(), BATCH_ROW.len()), (ach::FILE_ROW, ach::BATCH_ROW));
-    assert_eq!(ach::import(FILE_ROW, BATCH_ROW, LIST).as_deref(), Ok(TABLE));
-    let lines = ach::export(TABLE).unwrap();
-    assert_eq!(ach::import(FILE_ROW, BATCH_ROW, &lines).as_deref(), Ok(TABLE));
-    let file = ach::file_of(Way::Plain, TABLE).unwrap();
+    assert_eq!(ach::import(FILE_ROW, BATCH_ROW, LIST).as_deref(), Ok(LISTED));
+    let lines = ach::export(LISTED).unwrap();
+    assert_eq!(ach::import(FILE_ROW, BATCH_ROW, &lines).as_deref(), Ok(LISTED));
+    let file = ach::file_of(Way::Plain, LISTED).unwrap();
     assert_eq!(ach::check(Way::Plain, &file).unwrap().credit, 426_249);
 }
 
 #[test]
 fn rooms_are_filled_in_front_or_not_at_all() {
-    let lines = ach::export(TABLE).unwrap();
+    let lines = ach::export(LISTED).unwrap();
     for (need, fill) in [
-        (TABLE, &(|room: &mut [u8]| ach::import_into(FILE_ROW, BATCH_ROW, LIST, room)) as &Fill),
-        (&lines, &|room| ach::export_into(TABLE, room)),
+        (LISTED, &(|room: &mut [u8]| ach::import_into(FILE_ROW, BATCH_ROW, LIST, room)) as &Fill),
+        (&lines, &|room| ach::export_into(LISTED, room)),
     ] {
         for size in [0, 1, need.len() - 1, need.len(), need.len() + 1, 2_000] {
             let mut room = vec![b'?'; size];
@@ -132,7 +130,7 @@ fn refusals_of_a_list() {
     assert_eq!(ach::import(FILE_ROW, &BATCH_ROW[1..], LIST), Err(Refusal::without_place(24)));
     assert_eq!(ach::import(b"", b"", b"X").unwrap_err().number, 29);
     assert_eq!(ach::export(b""), Err(Refusal::without_place(24)));
-    assert_eq!(ach::export(&TABLE[1..]), Err(Refusal::without_place(24)));
+    assert_eq!(ach::export(&LISTED[1..]), Err(Refusal::without_place(24)));
 }
 
 #[test]

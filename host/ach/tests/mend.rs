@@ -1,18 +1,20 @@
 //! Mending through the boundary: what is cured, what is listed, and how much room it takes.
 
+mod common;
+
 use ach::fields::record_type;
 use ach::{Change, Changes, Fillers, Way};
-use generate::damage::{with_column, with_field, with_record_inserted, without_record};
-use generate::lines::{lined, with_end};
+use common::in_both_ways;
+use generate::controls::{with_fillers, without_controls, FILLER};
+use generate::copies::{with_column, with_field, with_record_inserted, without_record};
+use generate::lines::with_end;
 use generate::{big_file, sample, BigFile, RECORD};
-
-const FILLER: [u8; RECORD] = [b'9'; RECORD];
 
 #[test]
 fn an_accepted_file_stays() {
+    let files = samples::by_name();
     for (name, line) in samples::index().into_iter().filter(|(_, line)| line.starts_with("OK")) {
-        let file = samples::all().into_iter().find(|sample| sample.name == name).unwrap().bytes;
-        for (way, file) in [(Way::Plain, file.clone()), (Way::Lined, lined(&file))] {
+        for (way, file) in in_both_ways(&files[name]) {
             let mended =
                 ach::mend(way, &file).unwrap_or_else(|refusal| panic!("{name}: {refusal}"));
             assert_eq!(mended.list, [b'0'; 21], "{name}");
@@ -47,11 +49,9 @@ fn a_wrong_field_is_the_change() {
 #[test]
 fn fillers_are_counted() {
     let file = sample().file();
-    let seven = &file[..7 * RECORD];
     for old in (0..=30).filter(|old| *old != 3) {
-        let lent = [seven, &FILLER.repeat(old)].concat();
         let counted = (old <= 9).then_some(old as u8);
-        let mended = ach::mend(Way::Plain, &lent).unwrap();
+        let mended = ach::mend(Way::Plain, &with_fillers(&file, 7, old)).unwrap();
         assert!(mended.file == file);
         let fillers = Some(Fillers { old: counted, new: 3 });
         assert_eq!(mended.changes(), Changes { fillers, ..Changes::default() });
@@ -110,13 +110,8 @@ fn what_mending_does_not_cure() {
 fn room_for_the_most_changes() {
     let shape = BigFile { records: 302, entries_in_batch: 1, addendum_every: 0 };
     let file = big_file(&shape);
-    let mut wrong = file[..shape.records * RECORD].to_vec();
-    for control in wrong.chunks_mut(RECORD).filter(|record| matches!(record[0], b'8' | b'9')) {
-        control[1..].fill(b'#');
-    }
-    for (way, lent, due) in
-        [(Way::Plain, wrong.clone(), file.clone()), (Way::Lined, lined(&wrong), lined(&file))]
-    {
+    let wrong = without_controls(&file[..shape.records * RECORD], b'#');
+    for ((way, lent), (_, due)) in in_both_ways(&wrong).into_iter().zip(in_both_ways(&file)) {
         let mended = ach::mend(way, &lent).unwrap();
         assert!(mended.file == due);
         assert_eq!(mended.file.len(), way.room_for_mended(lent.len()));

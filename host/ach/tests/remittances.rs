@@ -1,23 +1,22 @@
 //! Zero-dollar remittances through the safe functions: their rows, both grounds of 28, and what may
 //! not be made of them.
 
+mod common;
+
 use ach::{Refusal, Way};
-use generate::damage::{resealed, with_field};
+use common::in_both_ways;
+use generate::copies::with_field;
 use generate::lists::rows_of;
 use generate::remittances::{in_ccd, with_entry_class, without_addendum, REMITTANCES};
+use generate::seal::resealed;
 
 const FILE: &[u8] = include_bytes!("../../../samples/remittances.ach");
 const BARE: &[u8] = include_bytes!("../../../samples/refused/remittance-bare.ach");
 const PPD: &[u8] = include_bytes!("../../../samples/refused/remittance-ppd.ach");
 
-/// The same file in both ways.
-fn both(file: &[u8]) -> [(Way, Vec<u8>); 2] {
-    [(Way::Plain, file.to_vec()), (Way::Lined, generate::lines::lined(file))]
-}
-
 #[test]
 fn the_sample_and_its_rows() {
-    for (way, file) in both(FILE) {
+    for (way, file) in in_both_ways(FILE) {
         let held = ach::check(way, &file).unwrap();
         assert_eq!((held.batches, held.entries, held.addenda), (1, 7, 6));
         assert_eq!((held.debit, held.credit), (0, 124_000));
@@ -36,7 +35,7 @@ fn the_sample_and_its_rows() {
 #[test]
 fn both_grounds_of_the_refusal() {
     for (file, field) in [(PPD, 2), (BARE, 10)] {
-        for (way, mut file) in both(file) {
+        for (way, mut file) in in_both_ways(file) {
             let refusal = Refusal { number: 28, record: 5, field };
             assert_eq!(ach::check(way, &file), Err(refusal));
             assert_eq!(ach::table_of(way, &file), Err(refusal));
@@ -86,7 +85,7 @@ fn the_order_of_the_numbers() {
 
 #[test]
 fn only_nothing_is_taken_for_a_remittance() {
-    for (way, file) in both(FILE) {
+    for (way, file) in in_both_ways(FILE) {
         for entry in [2, 3, 4, 5, 6] {
             let mut altered = file.clone();
             let mut rows = ach::rows_of(way, &file).unwrap();

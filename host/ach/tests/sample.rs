@@ -1,6 +1,9 @@
 //! The safe functions on the sample, and on files of every small shape.
 
+mod common;
+
 use ach::Way;
+use common::in_both_ways;
 
 const FILE: &[u8] = include_bytes!("../../../samples/whole.ach");
 const LINED: &[u8] = include_bytes!("../../../samples/whole-lined.ach");
@@ -94,7 +97,7 @@ fn results_in_memory_of_their_own() {
     for (most_batches, most_entries) in [(1, 1), (1, 40), (40, 1), (12, 12)] {
         for _ in 0..50 {
             let plan = generate::plan(&mut random, most_batches, most_entries);
-            for (way, file) in [(Way::Plain, plan.file()), (Way::Lined, plan.lined_file())] {
+            for (way, file) in in_both_ways(&plan.file()) {
                 assert_eq!(ach::table_of(way, &file), Ok(plan.table()));
                 assert_eq!(ach::file_of(way, &plan.table()), Ok(file));
             }

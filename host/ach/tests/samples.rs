@@ -1,13 +1,10 @@
 //! The proved library on every sample: the line that the index has, and the tables both ways.
 
-use ach::Way;
-use samples::Mending;
-use std::collections::BTreeMap;
+mod common;
 
-/// The files as they lie in the folder, which another test holds equal to these.
-fn files() -> BTreeMap<String, Vec<u8>> {
-    samples::all().into_iter().map(|sample| (sample.name, sample.bytes)).collect()
-}
+use ach::Way;
+use common::in_both_ways;
+use samples::Mending;
 
 /// Both indexes: the way of a file, its name, and its line.
 fn indexes() -> Vec<(Way, &'static str, &'static str)> {
@@ -18,7 +15,7 @@ fn indexes() -> Vec<(Way, &'static str, &'static str)> {
 
 #[test]
 fn every_sample_has_its_line() {
-    let files = files();
+    let files = samples::by_name();
     for (way, name, expected) in indexes() {
         assert_eq!(ach::line(&ach::check(way, &files[name])), expected, "{name}");
     }
@@ -26,15 +23,14 @@ fn every_sample_has_its_line() {
 
 #[test]
 fn every_table_is_its_files() {
-    let files = files();
+    let files = samples::by_name();
     let tables: Vec<&String> = files.keys().filter(|name| name.ends_with(".table")).collect();
     assert_eq!(tables.len(), 15);
     for name in tables {
         let (table, plain) = (&files[name], &files[&name.replace(".table", ".ach")]);
-        let lined = generate::lines::lined(plain);
-        for (way, file) in [(Way::Plain, plain), (Way::Lined, &lined)] {
-            assert_eq!(ach::file_of(way, table).as_ref(), Ok(file), "{name}");
-            assert_eq!(ach::table_of(way, file).as_ref(), Ok(table), "{name}");
+        for (way, file) in in_both_ways(plain) {
+            assert_eq!(ach::file_of(way, table).as_ref(), Ok(&file), "{name}");
+            assert_eq!(ach::table_of(way, &file).as_ref(), Ok(table), "{name}");
         }
     }
 }
@@ -42,7 +38,7 @@ fn every_table_is_its_files() {
 /// The line of a list is that of the file which its table is written to, or that of its refusal.
 #[test]
 fn every_list_has_its_line() {
-    let files = files();
+    let files = samples::by_name();
     let (file_row, batch_row) = (&files["team.file-row"], &files["team.batch-row"]);
     for (name, expected) in samples::list_index() {
         let held = ach::import(file_row, batch_row, &files[name])
@@ -54,7 +50,7 @@ fn every_list_has_its_line() {
 
 #[test]
 fn every_refused_sample_is_mended_or_not() {
-    let files = files();
+    let files = samples::by_name();
     for (name, due) in samples::mended_index() {
         let way = if name.ends_with("-lined.ach") { Way::Lined } else { Way::Plain };
         match (ach::mend(way, &files[name]), due) {
@@ -73,7 +69,7 @@ fn every_refused_sample_is_mended_or_not() {
 /// Refused, a file gives no table, whatever is asked of it.
 #[test]
 fn a_refusal_is_the_same_from_every_function() {
-    let files = files();
+    let files = samples::by_name();
     for (way, name, line) in indexes().into_iter().filter(|(.., line)| line.starts_with("NO ")) {
         let file = &files[name];
         let refusal = ach::check(way, file).unwrap_err();

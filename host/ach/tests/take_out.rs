@@ -1,13 +1,12 @@
 //! Taking entries out through the safe function: what is left, the blanks, and the refusals.
 
+mod common;
+
 use ach::{Refusal, Way};
+use common::{in_both_ways, GAPS, GAPS_IN_BOTH_WAYS, GAPS_LINED, RECALLED};
 use generate::recalls::random_recall;
 use generate::tables::without_entries;
 use generate::{plan, Random};
-
-const GAPS: &[u8] = include_bytes!("../../../samples/gaps.ach");
-const GAPS_LINED: &[u8] = include_bytes!("../../../samples/gaps-lined.ach");
-const RECALLED: &[u8] = include_bytes!("../../../samples/recalled.ach");
 
 #[test]
 fn four_payments_are_recalled() {
@@ -58,7 +57,7 @@ fn a_refusal_leaves_the_file() {
         // The bad number comes first, wherever it stands.
         (&[1, 2, 3, 4, 5, 6, 0], 25),
     ] {
-        for (way, lent) in [(Way::Plain, GAPS), (Way::Lined, GAPS_LINED)] {
+        for (way, lent) in GAPS_IN_BOTH_WAYS {
             let mut file = lent.to_vec();
             let refusal = Refusal::without_place(number);
             assert_eq!(ach::take_out(way, &mut file, list, &mut []), Err(refusal), "{list:?}");
@@ -90,7 +89,7 @@ fn it_is_the_file_of_the_table_without_the_rows() {
     for _ in 0..300 {
         let plan = plan(&mut random, 4, 6);
         let list = random_recall(&mut random, &plan);
-        for (way, mut file) in [(Way::Plain, plan.file()), (Way::Lined, plan.lined_file())] {
+        for (way, mut file) in in_both_ways(&plan.file()) {
             let table = ach::table_of(way, &file).unwrap();
             let mut rows = ach::rows_of(way, &file).unwrap();
             if let Ok(length) = ach::take_out(way, &mut file, &list, &mut rows) {

@@ -2,7 +2,10 @@
 
 mod common;
 
-use common::{fed, refusal_of_total, wrong_total, Folder, WHOLE, WHOLE_TABLE};
+use common::{
+    fed, has_its_line, is_written_again, refusal_of_total, sample, wrong_total, Folder, WHOLE,
+    WHOLE_TABLE,
+};
 use std::fs;
 
 #[test]
@@ -72,16 +75,9 @@ fn write() {
 
 #[test]
 fn what_is_read_is_written_again() {
-    let folder = Folder::new();
     let mut random = generate::Random::new(5);
-    for number in 0..20 {
-        let file = generate::plan(&mut random, 3, 6).file();
-        let original = folder.with(format!("{number}.ach"), &file);
-        let (table, again) =
-            (folder.path(format!("{number}.table")), folder.path(format!("{number}.again")));
-        assert_eq!(ach!("read", original, "-o", table).status, 0);
-        assert_eq!(ach!("write", table, "-o", again).status, 0);
-        assert_eq!(fs::read(again).unwrap(), file);
+    for _ in 0..20 {
+        is_written_again(&generate::plan(&mut random, 3, 6).file(), "--");
     }
 }
 
@@ -371,32 +367,17 @@ fn help_and_version() {
 #[test]
 fn all_eleven_are_written_and_shown() {
     let folder = Folder::new();
-    let samples: Vec<samples::Sample> = samples::all();
-    let table = samples.iter().find(|sample| sample.name == "eleven.table").unwrap();
-    let (table, file) = (folder.with("eleven.table", &table.bytes), folder.path("eleven.ach"));
+    let (table, file) = (sample("eleven.table"), folder.path("eleven.ach"));
     ach!("write", table, "-o", file, "--line").is(0, "OK 2 30 0 0 6293159\n", "");
     let page = ach!("show", file).out;
     let paid = |amount: &str| page.lines().filter(|line| line.contains(amount)).count();
     assert_eq!((paid(" 1999.99  "), paid(" 2000.00  "), paid(" 2000.01  ")), (1, 11, 1));
 }
 
-/// Every refused sample is refused by the command with its line, and with words for it.
 #[test]
-fn every_refused_sample() {
-    let folder = Folder::new();
-    let samples = samples::all();
+fn every_sample() {
+    let files = samples::by_name();
     for (name, line) in samples::index() {
-        let sample = samples.iter().find(|sample| sample.name == name).unwrap();
-        let file = folder.with("sample.ach", &sample.bytes);
-        let status = i32::from(line.starts_with("NO "));
-        ach!("check", file, "--line").is(status, &format!("{line}\n"), "");
-        let run = ach!("check", file);
-        assert_eq!(run.status, status, "{name}");
-        if status == 1 {
-            let number = line.split(' ').nth(1).unwrap();
-            assert!(run.err.contains(&format!("refused, {number}: ")), "{name}: {run:?}");
-            assert!(run.err.contains("\n  stands "), "{name}: {run:?}");
-            assert!(run.err.contains("\n  due    "), "{name}: {run:?}");
-        }
+        has_its_line(name, &files[name], "--", line);
     }
 }

@@ -3,7 +3,8 @@
 mod common;
 
 use common::{
-    fed, refusal_of_total, wrong_total, Folder, MEND_HINT, WHOLE, WHOLE_LINED, WHOLE_TABLE,
+    fed, has_its_line, is_written_again, refusal_of_total, wrong_total, Folder, MEND_HINT, WHOLE,
+    WHOLE_LINED, WHOLE_TABLE,
 };
 use generate::lines::{lined, with_end};
 use std::fs;
@@ -166,15 +167,11 @@ the last one too
 #[test]
 fn the_same_records_have_the_same_words() {
     let folder = Folder::new();
-    let samples = samples::all();
-    for (name, line) in samples::index() {
-        let sample = samples.iter().find(|sample| sample.name == name).unwrap();
-        if line == "NO 1 0 0" {
-            continue;
-        }
-        let file = folder.with("file.ach", &sample.bytes);
+    let files = samples::by_name();
+    for (name, line) in samples::index().into_iter().filter(|(_, line)| *line != "NO 1 0 0") {
+        let file = folder.with("file.ach", &files[name]);
         let plain = ach!("check", file);
-        folder.with("file.ach", &lined(&sample.bytes));
+        folder.with("file.ach", &lined(&files[name]));
         ach!("check", file, "--lined").is(plain.status, &plain.out, &plain.err);
         ach!("check", file, "--lined", "--line").is(plain.status, &format!("{line}\n"), "");
     }
@@ -216,16 +213,9 @@ fn read_and_write() {
 
 #[test]
 fn what_is_read_is_written_again() {
-    let folder = Folder::new();
     let mut random = generate::Random::new(6);
-    for number in 0..10 {
-        let file = generate::plan(&mut random, 3, 6).lined_file();
-        let original = folder.with(format!("{number}.ach"), &file);
-        let (table, again) =
-            (folder.path(format!("{number}.table")), folder.path(format!("{number}.again")));
-        assert_eq!(ach!("read", original, "-o", table, "--lined").status, 0);
-        assert_eq!(ach!("write", table, "-o", again, "--lined").status, 0);
-        assert_eq!(fs::read(again).unwrap(), file);
+    for _ in 0..10 {
+        is_written_again(&generate::plan(&mut random, 3, 6).lined_file(), "--lined");
     }
 }
 
@@ -286,22 +276,10 @@ fn show() {
     }
 }
 
-/// Every sample with line ends has its line, and words where it is refused.
 #[test]
 fn every_lined_sample() {
-    let folder = Folder::new();
-    let samples = samples::all();
+    let files = samples::by_name();
     for (name, line) in samples::lined_index() {
-        let sample = samples.iter().find(|sample| sample.name == name).unwrap();
-        let file = folder.with("sample.ach", &sample.bytes);
-        let status = i32::from(line.starts_with("NO "));
-        ach!("check", file, "--line", "--lined").is(status, &format!("{line}\n"), "");
-        let run = ach!("check", file, "--lined");
-        assert_eq!(run.status, status, "{name}");
-        if status == 1 {
-            let number = line.split(' ').nth(1).unwrap();
-            assert!(run.err.contains(&format!("refused, {number}: ")), "{name}: {run:?}");
-            assert!(run.err.contains("\n  stands ") && run.err.contains("\n  due    "), "{name}");
-        }
+        has_its_line(name, &files[name], "--lined", line);
     }
 }

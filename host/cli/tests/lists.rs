@@ -188,9 +188,9 @@ fn without_blanks(field: &[u8]) -> &[u8] {
 #[test]
 fn every_list_of_the_samples() {
     let desk = Desk::new();
-    let samples = samples::all();
+    let files = samples::by_name();
     for (name, line) in samples::list_index() {
-        let list = &samples.iter().find(|sample| sample.name == name).unwrap().bytes;
+        let list = &files[name];
         let status = i32::from(line.starts_with("NO "));
         desk.import(list, &["--line", "--force"]).is(status, &format!("{line}\n"), "");
         if status == 1 {

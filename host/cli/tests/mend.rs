@@ -2,7 +2,7 @@
 
 mod common;
 
-use common::{fed, send, Folder, Run, Slow, WHOLE, WHOLE_LINED};
+use common::{fed, mode, send, Folder, Run, Slow, WHOLE, WHOLE_LINED};
 use samples::Mending;
 use std::ffi::OsString;
 use std::fs;
@@ -23,18 +23,17 @@ const HELD_BY_WHOLE: &str = "batches 1, entries 2, addenda 1, debits 0.00, credi
 
 #[test]
 fn every_refused_sample() {
-    let samples = samples::all();
-    let content = |name: &str| &samples.iter().find(|sample| sample.name == name).unwrap().bytes;
+    let files = samples::by_name();
     for (name, due) in samples::mended_index() {
         let folder = Folder::new();
-        let (file, new) = (folder.with("a.ach", content(name)), folder.path("new.ach"));
+        let (file, new) = (folder.with("a.ach", &files[name]), folder.path("new.ach"));
         let way = if name.ends_with("-lined.ach") { "--lined" } else { "--" };
         let list = folder.path("list");
         let run = ach!("mend", "-o", new, "--changes", list, "--line", way, file);
         match due {
             Mending::Cured { file: cured, changes } => {
                 assert_eq!((run.status, run.err.as_str()), (0, ""), "{name}");
-                assert!(fs::read(&new).unwrap() == *content(cured), "{name}");
+                assert!(fs::read(&new).unwrap() == files[cured], "{name}");
                 assert_eq!(fs::read_to_string(&list).unwrap(), changes, "{name}");
                 ach!("check", "--line", way, new).is(0, &run.out, "");
                 let hint = ach!("check", way, file).err;
@@ -128,7 +127,6 @@ fn in_place() {
     run.is(0, &format!("{}: 940 bytes written; {HELD}\n{HASH}", file.display()), "");
     assert_eq!(fs::read(&file).unwrap(), TAXES);
     assert_eq!(fs::read_to_string(&list).unwrap(), LIST);
-    let mode = |path| fs::metadata(path).unwrap().permissions().mode() & 0o777;
     assert_eq!((mode(&file), mode(&list)), (0o640, 0o600));
     assert_eq!(folder.names(), ["a.ach", "list"]);
     let again = ach!("mend", file, "--in-place");

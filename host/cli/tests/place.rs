@@ -3,21 +3,15 @@
 
 mod common;
 
-use common::{as_nobody, command, mode, send, Folder, Run, Slow, GAPS, WHOLE, WHOLE_TABLE};
+use common::{as_nobody, command, mode, send, words, Folder, Run, Slow, GAPS, WHOLE, WHOLE_TABLE};
 use generate::{big_file, BigFile};
-use std::ffi::{OsStr, OsString};
+use std::ffi::OsString;
 use std::fs::{self, File, Permissions};
 use std::os::unix::fs::{symlink, MetadataExt, PermissionsExt};
 use std::os::unix::process::ExitStatusExt;
 use std::path::Path;
 use std::process::{Child, Command, Stdio};
 use std::time::{Duration, Instant};
-
-/// The words of a command line, with FILE for this path.
-fn words(line: &str, file: &Path) -> Vec<OsString> {
-    let word = |word| if word == "FILE" { file.into() } else { OsString::from(word) };
-    line.split(' ').map(word).collect()
-}
 
 fn started(line: &str, file: &Path) -> Child {
     let mut command = command();
@@ -212,7 +206,6 @@ fn a_file_that_may_not_be_written_to() {
         for line in lines {
             let arguments = words(line, &file);
             let read_only = (rights == 0o444).then(|| common::ach(&arguments));
-            let arguments: Vec<&OsStr> = arguments.iter().map(OsString::as_os_str).collect();
             let is_own = fs::metadata("/proc/self").unwrap().uid() != 0;
             let may_write = is_own && rights == 0o644;
             let others = if may_write { None } else { as_nobody(&arguments) };
@@ -236,7 +229,6 @@ fn an_owner_that_cannot_be_kept() {
     fs::set_permissions(&file, Permissions::from_mode(0o666)).unwrap();
     fs::set_permissions(folder.path(""), Permissions::from_mode(0o777)).unwrap();
     let arguments = words("alter FILE 1 2.00 --in-place", &file);
-    let arguments: Vec<&OsStr> = arguments.iter().map(OsString::as_os_str).collect();
     let Some(run) = as_nobody(&arguments) else {
         return;
     };

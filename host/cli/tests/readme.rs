@@ -2,18 +2,17 @@
 
 mod common;
 
-use common::Folder;
+use common::{sample, Folder};
 use std::os::unix::fs::symlink;
 use std::path::Path;
 use std::process::Command;
 
 const README: &str = include_str!("../../../README.md");
-const SAMPLES: &str = concat!(env!("CARGO_MANIFEST_DIR"), "/../../samples");
 
 #[test]
 fn the_session_is_real() {
     let folder = Folder::new();
-    symlink(SAMPLES, folder.path("samples")).unwrap();
+    symlink(sample(""), folder.path("samples")).unwrap();
     let lines: Vec<&str> = README.lines().filter_map(|line| line.strip_prefix("    ")).collect();
     let start = lines.iter().position(|line| line.starts_with("$ ach ")).unwrap();
     let session = lines[start..].split(|line| line.starts_with("let ")).next().unwrap();

@@ -2,15 +2,8 @@
 
 mod common;
 
-use common::Folder;
+use common::{sample, Folder};
 use generate::remittances::in_ccd;
-use std::path::{Path, PathBuf};
-
-const SAMPLES: &str = concat!(env!("CARGO_MANIFEST_DIR"), "/../../samples");
-
-fn sample(name: &str) -> PathBuf {
-    Path::new(SAMPLES).join(name)
-}
 
 #[test]
 fn show() {

@@ -2,7 +2,7 @@
 
 mod common;
 
-use common::{as_nobody, command, fed, mode, Folder, Run, WHOLE, WHOLE_TABLE};
+use common::{as_nobody, command, fed, mode, words, Folder, Run, WHOLE, WHOLE_TABLE};
 use std::ffi::OsStr;
 use std::fs::{self, File, Permissions};
 use std::io::Write;
@@ -34,7 +34,7 @@ fn no_permission() {
     let folder = Folder::new();
     let file = folder.with("secret.ach", WHOLE);
     fs::set_permissions(&file, Permissions::from_mode(0o000)).unwrap();
-    if let Some(run) = as_nobody(&["check".as_ref(), file.as_ref()]) {
+    if let Some(run) = as_nobody(&words("check FILE", &file)) {
         run.fails_with("secret.ach: Permission denied");
     }
     fs::set_permissions(&file, Permissions::from_mode(0o644)).unwrap();
@@ -44,9 +44,7 @@ fn no_permission() {
     if let Some(run) = as_nobody(&read) {
         run.fails_with("new.table: Permission denied");
     }
-    let alter = ["alter", "--in-place", "--", "FILE", "1", "2.00"].map(OsStr::new);
-    let alter = alter.map(|word| if word == "FILE" { file.as_os_str() } else { word });
-    if let Some(run) = as_nobody(&alter) {
+    if let Some(run) = as_nobody(&words("alter --in-place -- FILE 1 2.00", &file)) {
         run.fails_with("secret.ach: Permission denied");
     }
     fs::set_permissions(folder.path(""), Permissions::from_mode(0o755)).unwrap();

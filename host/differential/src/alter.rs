@@ -1,9 +1,11 @@
 //! Altering amounts and asking for addenda: the same answers, the file as if written afresh, and its
 //! rows; no other rows are taken.
 
+use crate::guard::PATTERN;
 use crate::rows::{self, Rows};
-use crate::tally::{Outcome, Tally, NO_FILE, PATTERN};
-use crate::{ways, Run};
+use crate::run::Run;
+use crate::tally::{Outcome, Tally, NO_FILE};
+use crate::ways;
 use ach::boundary::{ach_addendum, ach_alter};
 use generate::damage::random_damage;
 use generate::funds::other_lists;

@@ -1,17 +1,21 @@
 //! The check: the same verdict, and the acceptance and the rows filled or left alone.
 
+use crate::guard::PATTERN;
 use crate::rows::{self, Rows};
-use crate::tally::{Outcome, Tally, NO_FILE, PATTERN};
-use crate::{ways, Run};
+use crate::run::Run;
+use crate::tally::{Outcome, Tally, NO_FILE};
+use crate::ways;
 use ach::boundary::ach_check;
 use ach::ACCEPTANCE_LENGTH;
 use generate::columns::{field_count, place};
-use generate::damage::{
-    field_values, random_damage, resealed, traces_near, with_column, with_field,
-    with_record_doubled, with_record_inserted, with_records_swapped, with_trace, without_record,
+use generate::copies::{
+    with_column, with_field, with_record_doubled, with_record_inserted, with_records_swapped,
+    with_trace, without_record,
 };
+use generate::damage::{field_values, random_damage, traces_near};
 use generate::lines::{lined, random_end_damage, with_end, LINED_RECORD, SHIFTED_ENDS, WRONG_ENDS};
 use generate::remittances::in_ccd;
+use generate::seal::resealed;
 use generate::{
     big_file, near_limit, plan, sample, BigFile, Plan, Random, CODES, CODES_IN_PPD, RECORD,
 };

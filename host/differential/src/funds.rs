@@ -1,10 +1,11 @@
 //! Where the money runs out: the same answers for any rows and any limit, and for a file's own rows
 //! the answer from summing every entry, also behind alterations and recalls.
 
-use crate::guard::Guarded;
+use crate::guard::{Guarded, PATTERN};
 use crate::rows::Rows;
-use crate::tally::{Outcome, Tally, PATTERN};
-use crate::{ways, Run};
+use crate::run::Run;
+use crate::tally::{Outcome, Tally};
+use crate::ways;
 use ach::boundary::ach_runs_out;
 use generate::funds::{limits, random_rows};
 use generate::recalls::random_recall;

@@ -3,21 +3,23 @@
 
 use crate::check::numbers_of;
 use crate::funds::{first_over_limit, spelled};
-use crate::guard::Guarded;
+use crate::guard::{Guarded, PATTERN};
 use crate::rows::{self, Rows};
-use crate::tally::{Outcome, Tally, PATTERN};
-use crate::{ways, Run};
+use crate::run::Run;
+use crate::tally::{Outcome, Tally};
+use crate::ways;
 use ach::boundary::{
     ach_addendum, ach_alter, ach_check, ach_export, ach_import, ach_mend, ach_read, ach_runs_out,
     ach_take_out, ach_write,
 };
 use ach::{Refusal, ACCEPTANCE_LENGTH, BATCH_ROW, FILE_ROW};
 use generate::controls::random_control_damage;
-use generate::damage::{random_damage, resealed, BORDER_BYTES};
+use generate::damage::{random_damage, BORDER_BYTES};
 use generate::funds::{limits, other_lists, random_rows};
 use generate::lines::{lined, random_end_damage};
 use generate::lists::{list_of, random_list_damage, List};
 use generate::remittances::with_prenotes_for_remittances;
+use generate::seal::resealed;
 use generate::tables::{random_row_damage, shape_damage, without_entries};
 use generate::{near_limit, plan, Plan, Random, RECORD};
 use independent::Way;

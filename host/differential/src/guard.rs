@@ -1,4 +1,7 @@
-//! Lent memory between guards.
+//! Lent memory between guards, and what it holds before a call.
+
+/// What lent numbers hold before a call, to be found there again after a refusal.
+pub const PATTERN: u64 = 0x25A5_5A5A_C3C3_3C3C;
 
 const GUARD: usize = 128;
 

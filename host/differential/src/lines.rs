@@ -2,8 +2,8 @@
 //! and what is lent for reading as it was.
 
 use crate::rooms::{around, in_room};
+use crate::run::Run;
 use crate::tally::Tally;
-use crate::Run;
 use ach::boundary::{ach_export, ach_import};
 use generate::damage::BORDER_BYTES;
 use generate::lists::{

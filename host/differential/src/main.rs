@@ -16,24 +16,17 @@ mod mend;
 mod read_write;
 mod rooms;
 mod rows;
+mod run;
 mod take_out;
 mod tally;
 mod ways;
 
+use run::Run;
 use std::process::ExitCode;
 use std::time::{SystemTime, UNIX_EPOCH};
 use tally::Tally;
 
 const DEFAULT_SEED: u64 = 20_260_101;
-
-/// How the random part of a run is chosen.
-pub struct Run {
-    pub seed: u64,
-    /// How many random cases; None for the number that suits the subcommand.
-    pub cases: Option<u64>,
-    /// How long a fuzz run lasts.
-    pub seconds: u64,
-}
 
 fn main() -> ExitCode {
     let mut arguments = std::env::args().skip(1);

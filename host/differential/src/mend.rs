@@ -1,18 +1,20 @@
 //! Mending: the same answers, and the same bytes in both rooms. A file that is spoilt in nothing but
 //! its controls and fillers is itself again, and the list names every change and no other.
 
-use crate::guard::Guarded;
-use crate::tally::{Outcome, Tally, PATTERN};
-use crate::{ways, Run};
+use crate::guard::{Guarded, PATTERN};
+use crate::run::Run;
+use crate::tally::{Outcome, Tally};
+use crate::ways;
 use ach::boundary::ach_mend;
 use ach::fields::record_type;
 use ach::{Change, Changes, Fillers};
 use generate::columns::{field_count, place};
-use generate::controls::{controls, random_control_damage, with_fillers, without_controls};
-use generate::damage::{
-    field_values, random_damage, with_column, with_field, with_record_doubled,
-    with_record_inserted, with_records_swapped, without_record, BORDER_BYTES,
+use generate::controls::{controls, random_control_damage, with_fillers, without_controls, FILLER};
+use generate::copies::{
+    with_column, with_field, with_record_doubled, with_record_inserted, with_records_swapped,
+    without_record,
 };
+use generate::damage::{field_values, random_damage, BORDER_BYTES};
 use generate::lines::{lined, random_end_damage, with_end, SHIFTED_ENDS, WRONG_ENDS};
 use generate::{big_file, near_limit, plan, sample, BigFile, Plan, Random, RECORD};
 use independent::{Mended, Way};
@@ -21,7 +23,6 @@ use std::ptr::null_mut;
 /// These come behind some 1,500,000 that are not random.
 const DEFAULT_CASES: u64 = 300_000;
 const MOST_RECORDS: usize = 1_000_000;
-const FILLER: [u8; RECORD] = [b'9'; RECORD];
 
 pub fn compare(run: &Run, tally: &mut Tally) {
     let cases = run.cases.unwrap_or(DEFAULT_CASES);

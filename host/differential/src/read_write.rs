@@ -1,10 +1,14 @@
 //! Reading and writing: the same table or file in rooms of every size, and nothing else touched.
 
-use crate::tally::{Outcome, Tally, PATTERN};
-use crate::{rooms, ways, Run};
+use crate::guard::PATTERN;
+use crate::rooms;
+use crate::run::Run;
+use crate::tally::{Outcome, Tally};
+use crate::ways;
 use ach::boundary::{ach_read, ach_write};
-use generate::damage::{random_damage, resealed};
+use generate::damage::random_damage;
 use generate::lines::{lined, random_end_damage, with_end, WRONG_ENDS};
+use generate::seal::resealed;
 use generate::tables::{
     of_empty_batches, random_row_damage, shape_damage, with_empty_batch, with_last_entry_repeated,
 };

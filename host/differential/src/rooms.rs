@@ -1,7 +1,8 @@
 //! Results that go into a lent room: the same bytes in rooms of every size, and nothing else
 //! touched.
 
-use crate::tally::{Outcome, Tally, PATTERN};
+use crate::guard::PATTERN;
+use crate::tally::{Outcome, Tally};
 use independent::Refusal;
 
 /// What the lent room holds before the call.

@@ -1,7 +1,6 @@
 //! Lent rows between guards, and how many numbers are lent for them.
 
-use crate::guard::Guarded;
-use crate::tally::PATTERN;
+use crate::guard::{Guarded, PATTERN};
 use std::ptr::null_mut;
 
 /// Numbers lent for rows. All of them are looked at afterwards, and so are the guards around them.

@@ -1,14 +1,16 @@
 //! Taking entries out: the same answers, the same bytes and the same rows, and the file as if written
 //! without the entries.
 
-use crate::guard::Guarded;
+use crate::guard::{Guarded, PATTERN};
 use crate::rows::{self, Rows};
-use crate::tally::{Outcome, Tally, PATTERN};
-use crate::{ways, Run};
+use crate::run::Run;
+use crate::tally::{Outcome, Tally};
+use crate::ways;
 use ach::boundary::ach_take_out;
-use generate::damage::{random_damage, resealed};
+use generate::damage::random_damage;
 use generate::lines::{lined, random_end_damage, with_end, WRONG_ENDS};
 use generate::recalls::{random_recall, NO_ENTRIES};
+use generate::seal::resealed;
 use generate::tables::without_entries;
 use generate::{
     big_file, is_credit, near_limit, plan, sample, BigFile, Entry, Plan, Random, RECORD,

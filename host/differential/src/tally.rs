@@ -1,14 +1,12 @@
 //! Counts cases, and reports those in which the two sides differ.
 
+use crate::guard::PATTERN;
 use crate::rows::Rows;
 use independent::Refusal;
 use std::path::PathBuf;
 
 /// How many differences are shown; the rest are counted.
 const MOST_REPORTS: u64 = 10;
-
-/// What lent numbers hold before a call, to be found there again after a refusal.
-pub const PATTERN: u64 = 0x25A5_5A5A_C3C3_3C3C;
 
 /// No bytes are no file.
 pub const NO_FILE: Refusal = Refusal { number: 1, record: 0, field: 0 };

@@ -1,7 +1,9 @@
 //! Where the fields stand, for those who damage them.
 
-use crate::RECORD;
 use std::ops::Range;
+
+/// How many columns a record has; without line ends, so many bytes as well.
+pub const RECORD: usize = 94;
 
 /// The last column of every field, by record type; each field begins where the one before ends.
 const LAST_COLUMNS: [(u8, &[usize]); 6] = [
@@ -40,4 +42,11 @@ pub fn place(file: &[u8], record: usize, field: u8) -> Range<usize> {
     let start = record_range(record).start;
     let within = field_range(file[start], field);
     start + within.start..start + within.end
+}
+
+/// The number that the bytes of a field spell, if they are digits.
+pub(crate) fn number(bytes: &[u8]) -> Option<u64> {
+    let digits = bytes.iter().all(u8::is_ascii_digit);
+    let text = std::str::from_utf8(bytes).ok()?;
+    digits.then(|| text.parse().ok()).flatten()
 }

@@ -1,11 +1,11 @@
 //! Damage to controls and fillers alone, which follow from the other records.
 
-use crate::columns::{field_count, place, record_range};
-use crate::damage::{field_values, with_field};
+use crate::columns::{field_count, place, record_range, RECORD};
+use crate::copies::with_field;
+use crate::damage::field_values;
 use crate::random::Random;
-use crate::RECORD;
 
-const FILLER: [u8; RECORD] = [b'9'; RECORD];
+pub const FILLER: [u8; RECORD] = [b'9'; RECORD];
 
 /// The numbers of the batch controls of a file in order, and behind them that of its file control.
 pub fn controls(file: &[u8]) -> Vec<usize> {

@@ -1,10 +1,12 @@
 //! Damage: bytes, fields and records put out of order, mostly just across the edge of a rule.
 
-use crate::columns::{field_count, field_range, place, record_range};
-use crate::plan::is_credit;
+use crate::columns::{field_count, field_range, number, place, record_range, RECORD};
+use crate::copies::{
+    with_column, with_field, with_record_doubled, with_record_inserted, with_records_swapped,
+    with_trace, without_record,
+};
 use crate::random::Random;
 use crate::remittances::random_remittance_damage;
-use crate::RECORD;
 
 /// Bytes that lie on both sides of the borders between digits, letters, text and the rest.
 pub const BORDER_BYTES: [u8; 25] = [
@@ -101,63 +103,6 @@ fn numbers_near(now: &[u8]) -> Vec<Vec<u8>> {
     values
 }
 
-fn number(bytes: &[u8]) -> Option<u64> {
-    let digits = bytes.iter().all(u8::is_ascii_digit);
-    let text = std::str::from_utf8(bytes).ok()?;
-    digits.then(|| text.parse().ok()).flatten()
-}
-
-/// A copy with one field replaced. Record and field count from 1; the text fills the field.
-pub fn with_field(file: &[u8], record: usize, field: u8, text: impl AsRef<[u8]>) -> Vec<u8> {
-    let mut changed = file.to_vec();
-    changed[place(file, record, field)].copy_from_slice(text.as_ref());
-    changed
-}
-
-/// A copy with one column of a record replaced, both counted from 1.
-pub fn with_column(file: &[u8], record: usize, column: usize, byte: u8) -> Vec<u8> {
-    let mut changed = file.to_vec();
-    changed[record_range(record).start + column - 1] = byte;
-    changed
-}
-
-pub fn without_record(file: &[u8], record: usize) -> Vec<u8> {
-    let mut changed = file.to_vec();
-    changed.drain(record_range(record));
-    changed
-}
-
-pub fn with_record_doubled(file: &[u8], record: usize) -> Vec<u8> {
-    let copy = file[record_range(record)].to_vec();
-    with_record_inserted(file, record, &copy)
-}
-
-/// A copy with a record put in before the given one.
-pub fn with_record_inserted(file: &[u8], before: usize, record: &[u8]) -> Vec<u8> {
-    let start = record_range(before).start;
-    let mut changed = file.to_vec();
-    changed.splice(start..start, record.iter().copied());
-    changed
-}
-
-pub fn with_records_swapped(file: &[u8], one: usize, other: usize) -> Vec<u8> {
-    let mut changed = file.to_vec();
-    changed[record_range(one)].copy_from_slice(&file[record_range(other)]);
-    changed[record_range(other)].copy_from_slice(&file[record_range(one)]);
-    changed
-}
-
-/// A copy in which the entry in this record has another trace, and its addendum repeats it.
-pub fn with_trace(file: &[u8], record: usize, trace: u32) -> Vec<u8> {
-    let digits = format!("{trace:07}");
-    let bank = &file[place(file, record, 11)][..8];
-    let changed = with_field(file, record, 11, [bank, digits.as_bytes()].concat());
-    match file.get(record_range(record + 1)) {
-        Some([b'7', ..]) => with_field(&changed, record + 1, 5, digits),
-        _ => changed,
-    }
-}
-
 /// Traces around that of the entry before this record, whichever batch it is in, and those at the
 /// ends.
 pub fn traces_near(file: &[u8], record: usize) -> Vec<u32> {
@@ -168,99 +113,6 @@ pub fn traces_near(file: &[u8], record: usize) -> Vec<u32> {
     let mut near = vec![0, 1, before.saturating_sub(1), before, before + 1, before + 2, 9_999_999];
     near.retain(|trace| *trace <= 9_999_999);
     near
-}
-
-/// A copy whose controls and fillers follow from its entries again, so that damage to an entry is
-/// not hidden behind a control that no longer fits. What is no number counts as 0.
-pub fn resealed(file: &[u8]) -> Vec<u8> {
-    let mut changed = Vec::with_capacity(file.len());
-    let mut batch = Seal::default();
-    let mut whole = Seal::default();
-    let mut header = [b' '; RECORD].as_slice();
-    for record in file.chunks_exact(RECORD) {
-        match record[0] {
-            b'5' => {
-                header = record;
-                batch = Seal::default();
-                whole.batches += 1;
-                changed.extend_from_slice(record);
-            }
-            b'6' | b'7' => {
-                batch.add(record);
-                whole.add(record);
-                changed.extend_from_slice(record);
-            }
-            b'8' => changed.extend(batch.control(record, header)),
-            b'9' => {
-                let number = changed.len() / RECORD + 1;
-                changed.extend(whole.file_control(record, number));
-                changed.resize(number.next_multiple_of(10) * RECORD, b'9');
-                break;
-            }
-            _ => changed.extend_from_slice(record),
-        }
-    }
-    changed
-}
-
-/// What controls have to say.
-#[derive(Default)]
-struct Seal {
-    batches: u64,
-    records: u64,
-    routing: u64,
-    debit: u64,
-    credit: u64,
-}
-
-impl Seal {
-    fn add(&mut self, record: &[u8]) {
-        self.records += 1;
-        if record[0] != b'6' {
-            return;
-        }
-        let of = |field| number(&record[field_range(b'6', field)]).unwrap_or(0);
-        self.routing += of(3);
-        if is_credit(of(2) as u32) {
-            self.credit += of(6);
-        } else {
-            self.debit += of(6);
-        }
-    }
-
-    fn control(&self, record: &[u8], header: &[u8]) -> Vec<u8> {
-        let mut changed = record.to_vec();
-        for (field, of_header) in [(2, 2), (7, 5), (10, 12), (11, 13)] {
-            let expected = &header[field_range(b'5', of_header)];
-            changed[field_range(b'8', field)].copy_from_slice(expected);
-        }
-        self.spell(&mut changed, &[(3, self.records)], 4);
-        changed
-    }
-
-    fn file_control(&self, record: &[u8], number: usize) -> Vec<u8> {
-        let blocks = number.div_ceil(10) as u64;
-        let counts = [(2, self.batches), (3, blocks), (4, self.records)];
-        let mut changed = record.to_vec();
-        self.spell(&mut changed, &counts, 5);
-        changed
-    }
-
-    /// Writes the counts, and the hash and the two totals from the given field on.
-    fn spell(&self, control: &mut [u8], counts: &[(u8, u64)], hash_field: u8) {
-        let totals = [
-            (hash_field, self.routing),
-            (hash_field + 1, self.debit),
-            (hash_field + 2, self.credit),
-        ];
-        for &(field, value) in counts.iter().chain(&totals) {
-            let columns = field_range(control[0], field);
-            let width = columns.len();
-            let spelled = format!("{value:0width$}");
-            let cut = &spelled.as_bytes()[spelled.len() - width..];
-            control[columns].copy_from_slice(cut);
-        }
-    }
 }
 
 /// Does one random thing to a file that has at least one record.

@@ -6,6 +6,7 @@
 
 pub mod columns;
 pub mod controls;
+pub mod copies;
 pub mod damage;
 pub mod funds;
 pub mod lines;
@@ -14,14 +15,13 @@ mod plan;
 mod random;
 pub mod recalls;
 pub mod remittances;
+pub mod seal;
 mod shapes;
 pub mod tables;
 
+pub use columns::RECORD;
 pub use plan::{
     is_credit, is_payment, is_remittance, routing_check_digit, Batch, Builder, Entry, Header, Plan,
 };
 pub use random::Random;
 pub use shapes::{big_file, near_limit, plan, sample, BigFile, CODES, CODES_IN_PPD};
-
-/// How many columns a record has; without line ends, so many bytes as well.
-pub const RECORD: usize = 94;

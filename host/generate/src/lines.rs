@@ -1,7 +1,7 @@
 //! Files with CR LF behind every record, and damage to their line ends.
 
+use crate::columns::RECORD;
 use crate::random::Random;
-use crate::RECORD;
 use std::ops::Range;
 
 /// A record with its line end.

@@ -1,7 +1,7 @@
 //! A file as the values it is made of, and the rendering of those values.
 
+use crate::columns::RECORD;
 use crate::lines::lined;
-use crate::RECORD;
 use std::collections::BTreeSet;
 
 #[derive(Clone, Debug)]

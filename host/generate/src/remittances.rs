@@ -1,11 +1,10 @@
 //! Zero-dollar remittances: entries and files of them, and damage to what they ask for.
 
-use crate::columns::{place, record_range};
-use crate::damage::{with_field, without_record};
+use crate::columns::{place, record_range, RECORD};
+use crate::copies::{with_field, without_record};
 use crate::plan::{is_payment, is_remittance, Entry, Plan};
 use crate::random::Random;
 use crate::shapes::sample;
-use crate::RECORD;
 
 pub const REMITTANCES: [u32; 4] = [24, 29, 34, 39];
 

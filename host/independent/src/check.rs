@@ -5,6 +5,7 @@ use crate::field::{all, are_digits, check_digit, is_blank, value, Fault, Field};
 use crate::layout::*;
 use crate::outcome::{reason, Acceptance, Refusal};
 use crate::records::{Records, Way};
+use crate::sizes::{Record, FILLER, RECORDS_IN_BLOCK, RECORD_LENGTH};
 
 pub const LARGEST_TOTAL: u64 = 999_999_999_999;
 const HASH_MODULUS: u64 = 10_000_000_000;

@@ -4,9 +4,9 @@
 //! inside quotes does not end it.
 
 use crate::field::{are_digits, put_digits, value};
-use crate::layout::{Record, RECORD_LENGTH};
 use crate::outcome::{reason, Refusal};
 use crate::records::Way;
+use crate::sizes::{Record, RECORD_LENGTH};
 use crate::table::{
     put_in, write, Table, BATCH_ROW, COUNT_LENGTH, ENTRY_PART, ENTRY_ROW, HEADER_ROW,
 };

@@ -1,7 +1,7 @@
 //! A field of a record, and the rules that go by its kind alone.
 
-use crate::layout::Record;
 use crate::outcome::{reason, Refusal};
+use crate::sizes::Record;
 
 /// A field's number and columns, all counted from 1 as in the scope paper.
 #[derive(Clone, Copy)]

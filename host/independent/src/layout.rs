@@ -2,13 +2,6 @@
 
 use crate::field::{field, Field};
 
-pub const RECORD_LENGTH: usize = 94;
-pub type Record = [u8; RECORD_LENGTH];
-
-pub const FILLER: Record = [b'9'; RECORD_LENGTH];
-pub const RECORDS_IN_BLOCK: usize = 10;
-pub const MOST_RECORDS: usize = 1_000_000;
-
 /// Record 1.
 pub mod file_header {
     use super::*;

@@ -1,8 +1,8 @@
 //! Checking, reading, writing, altering and mending ACH payment files, taking entries out of them,
 //! where their credits pass a limit, and client lists, in plain Rust.
 //!
-//! Written from the scope paper and its change requests alone. The proved library of Qalarimo ACH is tested against this
-//! crate, and timed against it, so nothing here is taken from there.
+//! Written from the scope paper and its change requests alone. The proved library of Qalarimo ACH is
+//! tested against this crate, and timed against it, so nothing here is taken from there.
 
 mod alter;
 mod check;
@@ -14,6 +14,7 @@ mod layout;
 mod mend;
 mod outcome;
 mod records;
+mod sizes;
 mod table;
 mod take_out;
 

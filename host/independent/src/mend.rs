@@ -5,6 +5,7 @@ use crate::field::{put_digits, Field};
 use crate::layout::*;
 use crate::outcome::{reason, Refusal};
 use crate::records::{Records, Way};
+use crate::sizes::{Record, FILLER, RECORDS_IN_BLOCK};
 use crate::table::{put_in, Controls};
 
 const COUNT_LENGTH: usize = 7;

@@ -1,7 +1,7 @@
 //! The two ways of a file, and a file as its records.
 
-use crate::layout::{Record, MOST_RECORDS, RECORD_LENGTH};
 use crate::outcome::{reason, Refusal};
+use crate::sizes::{Record, MOST_RECORDS, RECORD_LENGTH};
 use std::ops::Range;
 
 /// How the records of a file follow one another. The caller tells; nothing guesses it.

@@ -6,6 +6,7 @@ use crate::field::{are_digits, put_digits, value, Field};
 use crate::layout::*;
 use crate::outcome::{reason, Acceptance, Refusal};
 use crate::records::{Records, Way};
+use crate::sizes::{Record, FILLER, MOST_RECORDS, RECORDS_IN_BLOCK, RECORD_LENGTH};
 use std::ops::Range;
 
 pub const COUNT_LENGTH: usize = 6;

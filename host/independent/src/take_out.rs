@@ -1,9 +1,9 @@
 //! Recalled payments: entries taken out of a file, which is closed up behind them.
 
 use crate::check::check;
-use crate::layout::*;
 use crate::outcome::{reason, Refusal};
 use crate::records::{Records, Way};
+use crate::sizes::{Record, FILLER, RECORDS_IN_BLOCK};
 use crate::table::Controls;
 
 /// Takes entries out, with their addenda and with the batches that they leave empty, and corrects

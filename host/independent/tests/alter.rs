@@ -2,14 +2,9 @@
 
 mod common;
 
-use common::alter;
+use common::{alter, refused};
 use generate::{is_payment, near_limit, plan, sample, Batch, Entry, Plan, Random};
-use independent::{addendum, Refusal, Way};
-
-fn refused<T: std::fmt::Debug>(result: Result<T, Refusal>) -> (u8, u64, u8) {
-    let Refusal { number, record, field } = result.expect_err("a refusal is due");
-    (number, record, field)
-}
+use independent::{addendum, Way};
 
 fn entries(plan: &mut Plan) -> impl Iterator<Item = &mut Entry> {
     plan.batches.iter_mut().flat_map(|batch| &mut batch.entries)

@@ -1,21 +1,18 @@
 //! Client lists: the grammar of lines, their fields, the rows, the formed file, and the way back.
 
+mod common;
+
+use common::{check_room, parts, Parts};
 use generate::remittances::with_prenotes_for_remittances;
 use generate::tables::Sections;
 use generate::{plan, sample, Batch, Entry, Plan, Random};
-use independent::{check, export, export_into, import, import_into, write, Refusal, Way};
-
-type Parts = (u8, u64, u8);
+use independent::{check, export, export_into, import, import_into, write, Way};
 
 /// The rows of the sample's file header and of its batch.
 fn rows() -> (Vec<u8>, Vec<u8>) {
     let table = sample().table();
     let [header, batch, ..] = Sections::of(&table).rows;
     (table[header].to_vec(), table[batch].to_vec())
-}
-
-fn parts(refusal: Refusal) -> Parts {
-    (refusal.number, refusal.record, refusal.field)
 }
 
 fn imported(lines: impl AsRef<[u8]>) -> Result<Vec<u8>, Parts> {
@@ -499,31 +496,17 @@ fn rooms() {
     let lines = line(GOOD);
     let table = imported(&lines).unwrap();
     for room in [0, 1, 296, 297, 298, 1_000] {
-        let mut lent = vec![0xA5; room];
-        check_room(import_into(&file_row, &batch_row, lines.as_bytes(), &mut lent), &lent, &table);
-        let refusal = import_into(&file_row, &batch_row, b"X", &mut lent).map_err(parts);
+        let import = |lines, lent: &mut [u8]| import_into(&file_row, &batch_row, lines, lent);
+        check_room(room, &table, |lent| import(lines.as_bytes(), lent));
+        let refusal = import(b"X", &mut vec![0; room]).map_err(parts);
         assert_eq!(refusal, Err((29, 1, 0)));
     }
     let lines = export(&table).unwrap();
     for room in [0, 1, lines.len() - 1, lines.len(), lines.len() + 1, 1_000] {
-        let mut lent = vec![0xA5; room];
-        check_room(export_into(&table, &mut lent), &lent, &lines);
-        let refusal = export_into(&table[1..], &mut lent).map_err(parts);
+        check_room(room, &lines, |lent| export_into(&table, lent));
+        let refusal = export_into(&table[1..], &mut vec![0; room]).map_err(parts);
         assert_eq!(refusal, Err((24, 0, 0)));
     }
-}
-
-/// Either the result and nothing behind it has been written, or nothing at all.
-fn check_room(result: Result<usize, Refusal>, lent: &[u8], expected: &[u8]) {
-    let written = if lent.len() < expected.len() {
-        assert_eq!(result.map_err(parts), Err((23, 0, 0)));
-        0
-    } else {
-        assert_eq!(result, Ok(expected.len()));
-        expected.len()
-    };
-    assert_eq!(lent[..written], expected[..written]);
-    assert!(lent[written..].iter().all(|&byte| byte == 0xA5));
 }
 
 fn exported(plan: &Plan) -> String {

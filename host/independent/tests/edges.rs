@@ -2,16 +2,11 @@
 
 mod common;
 
-use common::alter;
-use generate::damage::{resealed, with_field};
+use common::{alter, verdict};
+use generate::copies::with_field;
+use generate::seal::resealed;
 use generate::{near_limit, sample, Entry, Plan};
-use independent::{check, write, Refusal, Way};
-
-fn verdict(file: &[u8]) -> Result<(), (u8, u64, u8)> {
-    check(Way::Plain, file)
-        .map(|_| ())
-        .map_err(|Refusal { number, record, field }| (number, record, field))
-}
+use independent::{write, Way};
 
 /// The sample with some entries in place of its own.
 fn with_entries(count: usize, entry: Entry) -> Plan {

@@ -1,25 +1,17 @@
 //! Where the money runs out: the list that checking gives, the question, and what altering and
 //! taking out make of the list.
 
+mod common;
+
+use common::{in_way, parts};
 use generate::damage::random_damage;
 use generate::funds::{limits, other_lists, random_rows};
 use generate::recalls::random_recall;
 use generate::{is_credit, plan, sample, Batch, Plan, Random};
-use independent::{alter, check, check_into, rows_of, runs_out, take_out, Refusal, RunsOut, Way};
+use independent::{alter, check, check_into, rows_of, runs_out, take_out, RunsOut, Way};
 
 /// What lent numbers hold where nothing was put.
 const BEFORE: u64 = 0x25A5_5A5A_C3C3_3C3C;
-
-fn parts<T>(answer: Result<T, Refusal>) -> Result<T, (u8, u64, u8)> {
-    answer.map_err(|refusal| (refusal.number, refusal.record, refusal.field))
-}
-
-fn in_way(way: Way, plan: &Plan) -> Vec<u8> {
-    match way {
-        Way::Plain => plan.file(),
-        Way::Lined => plan.lined_file(),
-    }
-}
 
 /// The batch of the sample three times, the second one as debits.
 fn three_batches() -> Plan {
@@ -58,7 +50,7 @@ fn the_list_of_any_file_and_its_room() {
         let plan = plan(&mut random, 5, 4);
         let rows = plan.rows();
         for way in Way::BOTH {
-            let file = in_way(way, &plan);
+            let file = in_way(way, &plan.file());
             assert_eq!(rows_of(way, &file), Ok(rows.clone()));
             for more in [0, 1, 2, 7] {
                 let mut lent = vec![BEFORE; rows.len() + more];
@@ -67,7 +59,7 @@ fn the_list_of_any_file_and_its_room() {
             }
             for room in [0, 1, rows.len() - 1] {
                 let mut lent = vec![BEFORE; room];
-                assert_eq!(parts(check_into(way, &file, &mut lent)), Err((23, 0, 0)));
+                assert_eq!(check_into(way, &file, &mut lent).map_err(parts), Err((23, 0, 0)));
                 assert_eq!(lent, vec![BEFORE; room]);
             }
         }
@@ -157,12 +149,12 @@ fn of_any_list_it_is_the_first_row_over_the_limit() {
 fn only_the_files_own_list_goes_with_an_alteration() {
     for plan in [sample(), three_batches()] {
         for way in Way::BOTH {
-            let file = in_way(way, &plan);
+            let file = in_way(way, &plan.file());
             for list in other_lists(&plan.rows()) {
                 for (entry, amount) in [(1, 10_000), (2, 1), (1, 0), (0, 1), (99, u64::MAX)] {
                     let (mut altered, mut lent) = (file.clone(), list.clone());
                     let answer = alter(way, &mut altered, &mut lent, entry, amount);
-                    assert_eq!(parts(answer), Err((34, 0, 0)), "{list:?}");
+                    assert_eq!(answer.map_err(parts), Err((34, 0, 0)), "{list:?}");
                     assert_eq!((&altered, &lent), (&file, &list));
                 }
             }
@@ -215,7 +207,7 @@ fn the_list_of_what_is_left() {
         for room in [0, rows.len() - 1] {
             let (mut again, mut short) = (file.clone(), vec![BEFORE; room]);
             let taken = take_out(Way::Plain, &mut again, &list, &mut short);
-            assert_eq!(parts(taken), Err((23, 0, 0)));
+            assert_eq!(taken.map_err(parts), Err((23, 0, 0)));
             assert_eq!((again, short), (file.clone(), vec![BEFORE; room]));
         }
         granted += 1;
@@ -234,7 +226,7 @@ fn a_bad_number_and_no_entry_left_come_before_the_room() {
         (&[], (23, 0, 0)),
     ] {
         let taken = take_out(Way::Plain, &mut file.clone(), list, &mut [BEFORE]);
-        assert_eq!(parts(taken), Err(expected), "{list:?}");
+        assert_eq!(taken.map_err(parts), Err(expected), "{list:?}");
     }
     let mut rows = [BEFORE; 2];
     assert!(take_out(Way::Plain, &mut file.clone(), &[1, 2, 3, 4, 5], &mut rows).is_ok());

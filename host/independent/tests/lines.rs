@@ -2,19 +2,17 @@
 
 mod common;
 
-use common::alter;
-use generate::damage::{random_damage, resealed, with_column, with_field};
+use common::{alter, check_room, parts, Parts};
+use generate::copies::{with_column, with_field};
+use generate::damage::random_damage;
 use generate::lines::{end_range, lined, random_end_damage, with_end, LINED_RECORD, WRONG_ENDS};
+use generate::seal::resealed;
 use generate::{plan, sample, Plan, Random, RECORD};
 use independent::{addendum, check, read, read_into, write, write_into, Refusal, Way};
 
 const WHOLE_TABLE: &[u8] = include_bytes!("../../../samples/whole.table");
 
-fn parts(refusal: Refusal) -> (u8, u64, u8) {
-    (refusal.number, refusal.record, refusal.field)
-}
-
-fn refused(file: &[u8]) -> (u8, u64, u8) {
+fn refused(file: &[u8]) -> Parts {
     parts(check(Way::Lined, file).expect_err("a refusal is due"))
 }
 
@@ -145,17 +143,7 @@ fn fillers_and_what_stands_behind_them() {
 fn rooms() {
     let file = whole();
     for room in [0, 1, 940, 959, 960, 961, 2_000] {
-        let mut lent = vec![0xA5; room];
-        let written = match write_into(Way::Lined, WHOLE_TABLE, &mut lent) {
-            Ok(length) => length,
-            Err(refusal) => {
-                assert_eq!(parts(refusal), (23, 0, 0));
-                0
-            }
-        };
-        assert_eq!(written, if room < 960 { 0 } else { 960 });
-        assert_eq!(lent[..written], file[..written]);
-        assert!(lent[written..].iter().all(|&byte| byte == 0xA5));
+        check_room(room, &file, |lent| write_into(Way::Lined, WHOLE_TABLE, lent));
     }
     // A table holds no line ends, so its room is that of the other way.
     for (room, fits) in [(469, false), (470, true)] {

@@ -1,33 +1,21 @@
 //! Mending: the mended file, the list of changes, and the refusals in their order.
 
+mod common;
+
+use common::{in_way, parts, with_batches, Parts, BEFORE};
 use generate::columns::{field_count, field_range, place, record_range};
-use generate::damage::{
-    field_values, random_damage, with_column, with_field, with_record_doubled,
-    with_record_inserted, with_records_swapped, without_record,
+use generate::controls::{self, controls, FILLER};
+use generate::copies::{
+    with_column, with_field, with_record_doubled, with_record_inserted, with_records_swapped,
+    without_record,
 };
+use generate::damage::{field_values, random_damage};
 use generate::lines::{lined, random_end_damage, with_end, LINED_RECORD, WRONG_ENDS};
 use generate::remittances::in_ccd;
-use generate::{big_file, near_limit, plan, sample, Batch, BigFile, Entry, Plan, Random, RECORD};
-use independent::{check, mend, mend_into, Mended, Refusal, Way};
+use generate::{big_file, near_limit, plan, sample, BigFile, Random, RECORD};
+use independent::{check, mend, mend_into, Mended, Way};
 
-type Parts = (u8, u64, u8);
-
-/// What lent bytes hold where nothing was put.
-const BEFORE: u8 = 0xA5;
-const FILLER: [u8; RECORD] = [b'9'; RECORD];
 const NO_CHANGE: &[u8; 21] = b"000000000000000000000";
-
-fn parts(refusal: Refusal) -> Parts {
-    (refusal.number, refusal.record, refusal.field)
-}
-
-/// A file without line ends, in the way asked for.
-fn in_way(way: Way, file: &[u8]) -> Vec<u8> {
-    match way {
-        Way::Plain => file.to_vec(),
-        Way::Lined => lined(file),
-    }
-}
 
 /// The columns of all records of a file, back to back.
 fn columns(way: Way, file: &[u8]) -> Vec<u8> {
@@ -40,33 +28,9 @@ fn first_of(record_type: u8, file: &[u8]) -> usize {
     found.expect("the file has such a record") + 1
 }
 
-/// The numbers of the batch controls and of the file control of a file in order.
-fn controls(file: &[u8]) -> Vec<usize> {
-    let last = first_of(b'9', file);
-    (1..last).filter(|&record| file[record_range(record).start] == b'8').chain([last]).collect()
-}
-
 /// The file up to its control, and then so many fillers.
 fn with_fillers(file: &[u8], fillers: usize) -> Vec<u8> {
-    let control = first_of(b'9', file);
-    let mut changed = file[..control * RECORD].to_vec();
-    changed.resize((control + fillers) * RECORD, b'9');
-    changed
-}
-
-/// Batches of so many entries, traces from 1, every third entry with an addendum.
-fn with_batches(counts: &[u32]) -> Plan {
-    let mut plan = sample();
-    let [first, with_addendum] = [0, 1].map(|index| plan.batches[0].entries[index].clone());
-    let model = plan.batches.remove(0);
-    for (count, number) in counts.iter().zip(1..) {
-        let entries = (1..=*count).map(|trace| {
-            let model = if trace % 3 == 0 { &with_addendum } else { &first };
-            Entry { trace, amount: u64::from(1_000 * number + trace), ..model.clone() }
-        });
-        plan.batches.push(Batch { number, entries: entries.collect(), ..model.clone() });
-    }
-    plan
+    controls::with_fillers(file, first_of(b'9', file), fillers)
 }
 
 /// Mends, and holds what is done in lent rooms against it: both just long enough or longer, either

@@ -1,18 +1,16 @@
 //! The order of refusals: place before number, the lower number inside a field.
 
-use generate::damage::{
+mod common;
+
+use common::{verdict, Parts};
+use generate::copies::{
     with_column, with_field, with_record_doubled, with_record_inserted, with_records_swapped,
     without_record,
 };
 use generate::{sample, Batch, Entry};
-use independent::{check, Refusal, Way};
+use independent::{check, Way};
 
-fn verdict(file: &[u8]) -> Result<(), (u8, u64, u8)> {
-    let parts = |Refusal { number, record, field }| (number, record, field);
-    check(Way::Plain, file).map(|_| ()).map_err(parts)
-}
-
-fn refused(file: &[u8]) -> (u8, u64, u8) {
+fn refused(file: &[u8]) -> Parts {
     verdict(file).expect_err("a refusal is due")
 }
 
@@ -224,7 +222,7 @@ fn the_bank_of_a_trace_is_due_where_it_skips() {
 }
 
 /// Sets one column to every byte; those that pass are the ones named, the others have the number.
-fn every_byte(record: usize, column: usize, refusal: (u8, u64, u8), passes: impl Fn(u8) -> bool) {
+fn every_byte(record: usize, column: usize, refusal: Parts, passes: impl Fn(u8) -> bool) {
     for byte in 0..=255 {
         let file = with_column(&whole(), record, column, byte);
         if passes(byte) {

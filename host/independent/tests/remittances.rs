@@ -2,21 +2,17 @@
 
 mod common;
 
-use common::{alter, take_out};
-use generate::damage::{random_damage, resealed, with_field, without_record};
+use common::{alter, parts, take_out, Parts};
+use generate::copies::{with_field, without_record};
+use generate::damage::random_damage;
 use generate::lists::rows_of;
 use generate::remittances::{
     in_ccd, of_code, with_entry_class, with_prenotes_for_remittances, without_addendum, REMITTANCES,
 };
+use generate::seal::resealed;
 use generate::{is_credit, is_remittance, plan, sample, Batch, Entry, Random, CODES};
-use independent::{addendum, check, export, import, read, write, Refusal, Way};
+use independent::{addendum, check, export, import, read, write, Way};
 use std::collections::BTreeMap;
-
-type Parts = (u8, u64, u8);
-
-fn parts(refusal: Refusal) -> Parts {
-    (refusal.number, refusal.record, refusal.field)
-}
 
 /// The verdict, which is the same in both ways.
 fn verdict(file: &[u8]) -> Result<(), Parts> {

@@ -1,15 +1,13 @@
 //! Tables of wrong shape, formed files at fault, and rooms of every size.
 
+mod common;
+
+use common::{check_room, refused};
 use generate::tables::{
     of_empty_batches, shape_damage, with_empty_batch, with_last_entry_repeated, Sections,
 };
 use generate::{big_file, sample, BigFile};
-use independent::{read, read_into, write, write_into, Refusal, Way};
-
-fn refused<T: std::fmt::Debug>(result: Result<T, Refusal>) -> (u8, u64, u8) {
-    let Refusal { number, record, field } = result.expect_err("a refusal is due");
-    (number, record, field)
-}
+use independent::{read, read_into, write, write_into, Way};
 
 #[test]
 fn faults_of_shape() {
@@ -91,29 +89,12 @@ fn too_many_records_come_before_their_faults() {
 fn rooms() {
     let (file, table) = (sample().file(), sample().table());
     for room in [0, 1, 469, 470, 471, 2_000] {
-        let mut lent = vec![0xA5; room];
-        let result = read_into(Way::Plain, &file, &mut lent);
-        check_room(result, &lent, &table);
-        assert_eq!(refused(read_into(Way::Plain, &file[..94], &mut lent)), (2, 2, 0));
+        check_room(room, &table, |lent| read_into(Way::Plain, &file, lent));
+        assert_eq!(refused(read_into(Way::Plain, &file[..94], &mut vec![0; room])), (2, 2, 0));
     }
     for room in [0, 1, 939, 940, 941, 2_000] {
-        let mut lent = vec![0xA5; room];
-        let result = write_into(Way::Plain, &table, &mut lent);
-        check_room(result, &lent, &file);
-        assert_eq!(refused(write_into(Way::Plain, &table[..9], &mut lent)), (24, 0, 0));
+        check_room(room, &file, |lent| write_into(Way::Plain, &table, lent));
+        assert_eq!(refused(write_into(Way::Plain, &table[..9], &mut vec![0; room])), (24, 0, 0));
     }
     assert_eq!(read(Way::Plain, &file), Ok(table));
-}
-
-/// Either the result and nothing behind it has been written, or nothing at all.
-fn check_room(result: Result<usize, Refusal>, lent: &[u8], expected: &[u8]) {
-    let written = if lent.len() < expected.len() {
-        assert_eq!(refused(result), (23, 0, 0));
-        0
-    } else {
-        assert_eq!(result, Ok(expected.len()));
-        expected.len()
-    };
-    assert_eq!(lent[..written], expected[..written]);
-    assert!(lent[written..].iter().all(|&byte| byte == 0xA5));
 }

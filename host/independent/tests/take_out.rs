@@ -2,59 +2,33 @@
 
 mod common;
 
-use common::take_out;
+use common::{in_way, parts, take_out, with_batches, Parts};
 use generate::lines::with_end;
 use generate::recalls::{random_recall, NO_ENTRIES};
 use generate::tables::without_entries;
-use generate::{near_limit, plan, sample, Batch, Entry, Plan, Random};
-use independent::{check, read, write, Refusal, Way};
-
-fn parts(refusal: Refusal) -> (u8, u64, u8) {
-    (refusal.number, refusal.record, refusal.field)
-}
-
-fn in_way(way: Way, plan: &Plan) -> Vec<u8> {
-    match way {
-        Way::Plain => plan.file(),
-        Way::Lined => plan.lined_file(),
-    }
-}
+use generate::{near_limit, plan, sample, Entry, Plan, Random};
+use independent::{check, read, write, Way};
 
 /// What is left of the plan's file, in both ways, is that of the plan without the entries, and then
 /// blanks.
 #[track_caller]
 fn leaves(plan: &Plan, entries: &[u64], rest: &Plan) {
     for way in Way::BOTH {
-        let mut file = in_way(way, plan);
+        let mut file = in_way(way, &plan.file());
         let length = take_out(way, &mut file, entries).expect("an entry is left");
-        assert_eq!(file[..length], in_way(way, rest));
+        assert_eq!(file[..length], in_way(way, &rest.file()));
         assert!(file[length..].iter().all(|byte| *byte == b' '));
     }
 }
 
 /// The list is refused so, in both ways, and the file stays.
 #[track_caller]
-fn refuses(plan: &Plan, entries: &[u64], expected: (u8, u64, u8)) {
+fn refuses(plan: &Plan, entries: &[u64], expected: Parts) {
     for way in Way::BOTH {
-        let mut file = in_way(way, plan);
+        let mut file = in_way(way, &plan.file());
         assert_eq!(take_out(way, &mut file, entries).map_err(parts), Err(expected));
-        assert_eq!(file, in_way(way, plan));
+        assert_eq!(file, in_way(way, &plan.file()));
     }
-}
-
-/// Batches of so many entries, traces from 1, every third entry with an addendum.
-fn with_batches(counts: &[u32]) -> Plan {
-    let mut plan = sample();
-    let [first, with_addendum] = [0, 1].map(|index| plan.batches[0].entries[index].clone());
-    let model = plan.batches.remove(0);
-    for (count, number) in counts.iter().zip(1..) {
-        let entries = (1..=*count).map(|trace| {
-            let model = if trace % 3 == 0 { &with_addendum } else { &first };
-            Entry { trace, amount: u64::from(1_000 * number + trace), ..model.clone() }
-        });
-        plan.batches.push(Batch { number, entries: entries.collect(), ..model.clone() });
-    }
-    plan
 }
 
 /// Worked out by hand: the second of two entries goes, and with it its addendum.
@@ -182,7 +156,7 @@ fn it_is_the_file_of_the_table_without_the_rows() {
         let plan = plan(&mut random, 4, 6);
         let list = random_recall(&mut random, &plan);
         for way in Way::BOTH {
-            let mut file = in_way(way, &plan);
+            let mut file = in_way(way, &plan.file());
             let table = read(way, &file).unwrap();
             if let Ok(length) = take_out(way, &mut file, &list) {
                 let rest = without_entries(&table, &list);

@@ -1,6 +1,35 @@
 //! Files in order.
 
+use crate::sample::Sample;
 use generate::{sample, Batch, Entry, Header, Plan};
+
+/// Every accepted file, each with its pay table.
+pub fn all() -> Vec<Sample> {
+    let pairs = plans().into_iter().flat_map(|(name, plan)| {
+        [(format!("{name}.ach"), plan.file()), (format!("{name}.table"), plan.table())]
+    });
+    pairs.map(|(name, bytes)| Sample { name, bytes }).collect()
+}
+
+fn plans() -> Vec<(&'static str, Plan)> {
+    vec![
+        ("whole", sample()),
+        ("eleven", eleven()),
+        ("mended", mended()),
+        ("cent-more", cent_more()),
+        ("pension", pension()),
+        ("loans", loans()),
+        ("vendors", vendors()),
+        ("staff", staff()),
+        ("taxes", taxes()),
+        ("gaps", gaps()),
+        ("recalled", recalled()),
+        ("union", union()),
+        ("remittances", remittances()),
+        ("team", team()),
+        ("prefunded", prefunded()),
+    ]
+}
 
 /// One of the entries to come: code, bank, account, cents, identification, name.
 type Row = (u32, u32, &'static str, u64, &'static str, &'static str);
@@ -62,19 +91,19 @@ pub fn eleven() -> Plan {
 
 /// What mending makes of `eleven` when the last entry of its first batch is lost: in order, and one
 /// person short.
-pub fn mended() -> Plan {
+fn mended() -> Plan {
     eleven().without(&[18])
 }
 
 /// What mending makes of the scope's example when an entry is given a cent more and the totals are not.
-pub fn cent_more() -> Plan {
+fn cent_more() -> Plan {
     let mut plan = sample();
     plan.batches[0].entries[0].amount += 1;
     plan
 }
 
 /// After source document 000: five pensions at 05300021.
-pub fn pension() -> Plan {
+fn pension() -> Plan {
     let bank = 5_300_021;
     let mut plan = sample();
     plan.header = Header {
@@ -123,7 +152,7 @@ pub fn gaps() -> Plan {
 
 /// What is left of `gaps` when a client recalls four of its payments: two of the first batch, and
 /// both of the second, which goes with them.
-pub fn recalled() -> Plan {
+fn recalled() -> Plan {
     gaps().without(&[2, 3, 5, 6])
 }
 
@@ -232,7 +261,7 @@ pub fn loans() -> Plan {
 
 /// A client who prefunds: one batch is paid, one collected, one of prenotes, one of both sides and one
 /// paid again. The credits grow with the first, the fourth and the fifth.
-pub fn prefunded() -> Plan {
+fn prefunded() -> Plan {
     let mut plan = sample();
     let model = plan.batches.remove(0);
     let (here, there) = (32_207_038, 5_300_021);
@@ -298,7 +327,7 @@ pub fn vendors() -> Plan {
 }
 
 /// After source document 003: staff are paid and members' dues collected, prenotes among both.
-pub fn staff() -> Plan {
+fn staff() -> Plan {
     let bank = 2_130_264;
     let mut plan = sample();
     plan.header = Header {

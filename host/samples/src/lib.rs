@@ -8,48 +8,20 @@ mod accepted;
 mod lined;
 mod lists;
 mod refused;
+mod sample;
 
-use generate::{sample, Plan};
+use std::collections::BTreeMap;
 
-/// A file of the folder.
-pub struct Sample {
-    /// Its name, from the folder on.
-    pub name: String,
-    pub bytes: Vec<u8>,
-}
+pub use sample::Sample;
 
 /// All files but the index and the explanations.
 pub fn all() -> Vec<Sample> {
-    let mut samples = Vec::new();
-    for (name, plan) in plans() {
-        samples.push(Sample { name: format!("{name}.ach"), bytes: plan.file() });
-        samples.push(Sample { name: format!("{name}.table"), bytes: plan.table() });
-    }
-    samples.extend(refused::all());
-    samples.extend(lined::all());
-    samples.extend(lists::all());
-    samples
+    [accepted::all(), refused::all(), lined::all(), lists::all()].into_iter().flatten().collect()
 }
 
-/// The accepted files, each with its pay table.
-fn plans() -> Vec<(&'static str, Plan)> {
-    vec![
-        ("whole", sample()),
-        ("eleven", accepted::eleven()),
-        ("mended", accepted::mended()),
-        ("cent-more", accepted::cent_more()),
-        ("pension", accepted::pension()),
-        ("loans", accepted::loans()),
-        ("vendors", accepted::vendors()),
-        ("staff", accepted::staff()),
-        ("taxes", accepted::taxes()),
-        ("gaps", accepted::gaps()),
-        ("recalled", accepted::recalled()),
-        ("union", accepted::union()),
-        ("remittances", accepted::remittances()),
-        ("team", accepted::team()),
-        ("prefunded", accepted::prefunded()),
-    ]
+/// The same files by name; a test holds them equal to those in the folder.
+pub fn by_name() -> BTreeMap<String, Vec<u8>> {
+    all().into_iter().map(|sample| (sample.name, sample.bytes)).collect()
 }
 
 /// Every file without line ends that is checked, and the line that has to be printed for it.

@@ -1,6 +1,7 @@
 //! Files with CR LF behind every record: three in order, and refused ones made from the first.
 
-use crate::{accepted, Sample};
+use crate::accepted;
+use crate::sample::Sample;
 use generate::lines::with_end;
 use generate::sample;
 

@@ -1,7 +1,8 @@
 //! A client's list as a spreadsheet exports it, the two rows that it is imported with, and lists
 //! that are refused, each for one fault.
 
-use crate::{accepted, Sample};
+use crate::accepted;
+use crate::sample::Sample;
 use generate::lists::rows_of;
 
 /// Quotes where they are needed and once where they are not, a comma in two names, quotes in one,

@@ -1,10 +1,12 @@
 //! Files that are refused, each for one fault.
 
-use crate::{accepted, Sample};
+use crate::accepted;
+use crate::sample::Sample;
 use generate::controls::without_controls;
-use generate::damage::{resealed, with_field, with_trace, without_record};
+use generate::copies::{with_field, with_trace, without_record};
 use generate::lines::lined;
 use generate::remittances::{with_entry_class, without_addendum};
+use generate::seal::resealed;
 use generate::{sample, RECORD};
 
 pub fn all() -> Vec<Sample> {

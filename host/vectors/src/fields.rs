@@ -1,7 +1,7 @@
 //! One field of the sample at a time: each number it can be refused with, and values just inside.
 
-use crate::{accepting_line, Collection};
-use generate::damage::with_field;
+use crate::collection::{accepting_line, Collection};
+use generate::copies::with_field;
 use generate::sample;
 
 /// The records of the sample.

@@ -1,6 +1,6 @@
 //! The list that the check gives: the check program lends room for the rows of any file it looks at.
 
-use crate::Collection;
+use crate::collection::Collection;
 use generate::{sample, Batch, Entry, Plan};
 
 /// Two records of the file, and three of each batch, are just below what is looked at.

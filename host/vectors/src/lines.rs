@@ -1,7 +1,7 @@
 //! Files with CR LF behind every record: where its lack is refused, and what comes before it.
 
-use crate::{accepting_line, Collection};
-use generate::damage::{with_column, with_field};
+use crate::collection::{accepting_line, Collection};
+use generate::copies::{with_column, with_field};
 use generate::lines::{lined, with_end, LINED_RECORD, WRONG_ENDS};
 use generate::{near_limit, sample, Batch, Entry, Plan};
 

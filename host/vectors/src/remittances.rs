@@ -1,8 +1,9 @@
 //! Zero-dollar remittances: in CCD batches only, with amount 0 and an addendum.
 
-use crate::Collection;
-use generate::damage::{resealed, with_field, without_record};
+use crate::collection::Collection;
+use generate::copies::{with_field, without_record};
 use generate::remittances::{in_ccd, of_code, with_entry_class, without_addendum, REMITTANCES};
+use generate::seal::resealed;
 use generate::{is_credit, sample, Batch, Plan, CODES};
 
 /// The one entry of most files here, and the addendum behind it.

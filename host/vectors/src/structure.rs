@@ -1,7 +1,7 @@
 //! Lengths, the order of records, fillers, and what comes after them.
 
-use crate::Collection;
-use generate::damage::{
+use crate::collection::Collection;
+use generate::copies::{
     with_column, with_field, with_record_doubled, with_record_inserted, with_records_swapped,
     without_record,
 };

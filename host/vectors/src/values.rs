@@ -1,7 +1,7 @@
 //! Whole plans at the edges: codes and classes, amounts, traces, batch numbers, hashes, totals.
 
-use crate::Collection;
-use generate::damage::with_field;
+use crate::collection::Collection;
+use generate::copies::with_field;
 use generate::remittances::of_code;
 use generate::{near_limit, sample, Batch, Entry, Plan, CODES_IN_PPD};
 

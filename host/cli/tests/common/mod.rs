@@ -1,7 +1,7 @@
 //! What the tests of the command line share: a folder of their own, and the command as a process.
 #![allow(dead_code)]
 
-use std::ffi::OsStr;
+use std::ffi::{OsStr, OsString};
 use std::fs;
 use std::io::Write;
 use std::os::unix::fs::{MetadataExt, PermissionsExt};
@@ -16,6 +16,13 @@ pub const WHOLE_LINED: &[u8] = include_bytes!("../../../../samples/whole-lined.a
 pub const WHOLE_TABLE: &[u8] = include_bytes!("../../../../samples/whole.table");
 pub const GAPS: &[u8] = include_bytes!("../../../../samples/gaps.ach");
 pub const GAPS_LINED: &[u8] = include_bytes!("../../../../samples/gaps-lined.ach");
+
+const SAMPLES: &str = concat!(env!("CARGO_MANIFEST_DIR"), "/../../samples");
+
+/// The path of a sample; that of their folder has no name.
+pub fn sample(name: &str) -> PathBuf {
+    Path::new(SAMPLES).join(name)
+}
 
 /// The sample, plain or lined, with a cent too much in the total of its batch.
 pub fn wrong_total(sample: &[u8]) -> Vec<u8> {
@@ -190,8 +197,14 @@ macro_rules! ach {
     };
 }
 
+/// The words of a command line, with FILE for this path.
+pub fn words(line: &str, file: &Path) -> Vec<OsString> {
+    let word = |word| if word == "FILE" { file.into() } else { OsString::from(word) };
+    line.split(' ').map(word).collect()
+}
+
 /// Who may read everything runs the command as somebody who may not.
-pub fn as_nobody(arguments: &[&OsStr]) -> Option<Run> {
+pub fn as_nobody<A: AsRef<OsStr>>(arguments: &[A]) -> Option<Run> {
     let mut unprivileged = command();
     unprivileged.args(arguments);
     let may_read_everything = fs::metadata("/proc/self").unwrap().uid() == 0;
@@ -221,4 +234,32 @@ pub fn fed(arguments: &[&str], bytes: &[u8]) -> Run {
     let _ = input.write_all(bytes);
     drop(input);
     Run::of(child.wait_with_output().unwrap())
+}
+
+/// A sample has its line, and words where it is refused. The way is `--lined`, or `--` for none.
+#[track_caller]
+pub fn has_its_line(name: &str, sample: &[u8], way: &str, line: &str) {
+    let folder = Folder::new();
+    let file = folder.with("sample.ach", sample);
+    let status = i32::from(line.starts_with("NO "));
+    ach!("check", "--line", way, file).is(status, &format!("{line}\n"), "");
+    let run = ach!("check", way, file);
+    assert_eq!(run.status, status, "{name}");
+    if status == 1 {
+        let number = line.split(' ').nth(1).unwrap();
+        assert!(run.err.contains(&format!("refused, {number}: ")), "{name}: {run:?}");
+        assert!(run.err.contains("\n  stands "), "{name}: {run:?}");
+        assert!(run.err.contains("\n  due    "), "{name}: {run:?}");
+    }
+}
+
+/// What is read from a file is written again; the way as for `has_its_line`.
+#[track_caller]
+pub fn is_written_again(file: &[u8], way: &str) {
+    let folder = Folder::new();
+    let original = folder.with("a.ach", file);
+    let (table, again) = (folder.path("a.table"), folder.path("again.ach"));
+    assert_eq!(ach!("read", "-o", table, way, original).status, 0);
+    assert_eq!(ach!("write", "-o", again, way, table).status, 0);
+    assert_eq!(fs::read(again).unwrap(), file);
 }
