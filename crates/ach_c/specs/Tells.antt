@@ -13,8 +13,8 @@ use Rattle.layout.specs.declared.Made.{Made}
 use Rattle.view.specs.Outcome.{Outcome, Part}
 use Rattle.funds.specs.declared.RunsOut.{RunsOut}
 use Rattle.funds.specs.Outcome.{Listed}
-use Rattle.mending.specs.Mending.{Mending}
-use Rattle.told.specs.Boundary.{codeOfAnswer, numbersOf, numbersLeft, left}
+use Rattle.mend.specs.Mend.{Mending}
+use Rattle.ach.specs.Told.{codeOfAnswer, numbersOf, numbersLeft, left}
 
 -- ach_check: the acceptance, and the lent rows
 abbrev pub TellsChecked : Outcome Checked → List ℕ → ℕ → List ℕ → List ℕ → Type 0

@@ -1,15 +1,16 @@
 // The boundary: thin, total functions on slices and numbers for callers in C, Rust and other languages (include/ach.h).
+use ach::told;
 use layout::Answer;
 use layout::EntryNo;
 ghost use Rattle.funds.specs.Funds.{runsOut};
 ghost use Rattle.funds.specs.Outcome.{checkOf};
-ghost use Rattle.relisting.specs.Listed.{alterListedOf};
-ghost use Rattle.told.specs.Boundary.{wayOf};
+ghost use Rattle.alter.specs.Alter.{alterListedOf};
+ghost use Rattle.ach.specs.Told.{wayOf};
 ghost use Rattle.ach_c.specs.Tells.{TellsChecked, TellsMade, TellsTakenOut, TellsMended, TellsAltered, TellsAsked, TellsFound};
-ghost use Rattle.mending.specs.Mending.{mendOf};
-ghost use Rattle.comma.specs.Import.{importOf};
-ghost use Rattle.exporting.specs.Export.{exportOf};
-ghost use Rattle.without.specs.Without.{takeOutOf};
+ghost use Rattle.mend.specs.Mend.{mendOf};
+ghost use Rattle.csv_entry.specs.Import.{importOf};
+ghost use Rattle.csv_export.specs.Export.{exportOf};
+ghost use Rattle.recall_view.specs.RecallView.{takeOutOf};
 ghost use Rattle.view.specs.Outcome.{readOf, writeOf, addendumAnswer, addendumOf};
 
 #[no_mangle]
