@@ -21,39 +21,39 @@ use Rattle.layout.specs.declared.Row.{Row}
 use Rattle.layout.specs.declared.Line.{Line}
 use Rattle.layout.specs.Fields.{rowsOf, firstField}
 use Rattle.layout.specs.Paper.{refusal}
-use Rattle.kinds.specs.declared.Mark.{Mark}
-use Rattle.codes.specs.declared.Code.{Code}
-use Rattle.codes.specs.Codes.{codeOf, carries}
-use Rattle.near.specs.declared.Sums.{Sums}
-use Rattle.rules.specs.Field.{fieldOf}
-use Rattle.tally.specs.declared.State.{State}
-use Rattle.records.specs.declared.Verdict.{Verdict}
-use Rattle.order.specs.Order.{complete}
-use Rattle.tally.specs.Tally.{start, tally}
-use Rattle.records.specs.Run.{found, fieldsFrom, lineOf, Piece, closing, stepped, onward, refused, accepted, runFrom, lengthFits, mostRecords, rawRecords, pieceOf, checkedOf}
-use Rattle.tally.proofs.TallyLaws.{records-next}
-use Rattle.records.proofs.Laws as laws
-use Rattle.records.proofs.Ways.{rows-few}
+use Rattle.check_alone.specs.declared.Mark.{Mark}
+use Rattle.check_codes.specs.declared.Code.{Code}
+use Rattle.check_codes.specs.Codes.{codeOf, carries}
+use Rattle.check_across.specs.declared.Sums.{Sums}
+use Rattle.check_field.specs.Field.{fieldOf}
+use Rattle.check_sums.specs.declared.State.{State}
+use Rattle.check_record.specs.declared.Verdict.{Verdict}
+use Rattle.check_order.specs.Order.{complete}
+use Rattle.check_sums.specs.Sums.{start, tally}
+use Rattle.check_record.specs.Record.{found, fieldsFrom, lineOf, Piece, closing, stepped, onward, refused, accepted, runFrom, lengthFits, mostRecords, rawRecords, pieceOf, checkedOf}
+use Rattle.check_sums.proofs.SumLaws.{records-next}
+use Rattle.check_record.proofs.Laws as laws
+use Rattle.check_record.proofs.Ways.{rows-few}
 use Rattle.layout.specs.Ways.{recordBytes}
 use Rattle.view.specs.View.{View, entriesOf, sumOver, debitOf, creditOf, amountOf, codeIn, fileOf, viewOf, fillerRecord}
 use Rattle.view.specs.Table.{shaped, formed, tableOf}
 use Rattle.view.specs.Outcome.{Spot, demand, andThen, room, made, readOf, writeOf, entryAt, exists, spotOf, entryNumber, batchControlNumber, fileControlNumber, within, limits, alterAnswer, altered, addendumAnswer}
-use Rattle.bridge.proofs.Bridge.{accepted-view}
-use Rattle.finding.proofs.Places.{in-order}
+use Rattle.view_laws.proofs.Bridge.{accepted-view}
+use Rattle.find_entry.proofs.Places.{in-order}
 use Rattle.layout.specs.declared.Way.{Way}
 use Rattle.layout.specs.declared.Checked.{Checked}
-use Rattle.cells.specs.Grammar.{linesIn, sixFields, sixTexts}
-use Rattle.comma.specs.Entries.{fieldRight, fieldFault, try, textsVerdict, lineVerdict}
-use Rattle.comma.specs.Import.{lineAnswer, linesAnswer, importTable, rowsFit, importAnswer, importOf}
-use Rattle.comma.proofs.EntryLaws.{texts-many, lines-count}
+use Rattle.csv_cells.specs.Cells.{linesIn, sixFields, sixTexts}
+use Rattle.csv_entry.specs.Entries.{fieldRight, fieldFault, try, textsVerdict, lineVerdict}
+use Rattle.csv_entry.specs.Import.{lineAnswer, linesAnswer, importTable, rowsFit, importAnswer, importOf}
+use Rattle.csv_entry.proofs.EntryLaws.{texts-many, lines-count}
 use Rattle.funds.specs.Funds.{enoughRows, trueList}
 use Rattle.funds.specs.Outcome.{checkAnswer, given, checkOf}
-use Rattle.relisting.specs.Listed.{alterListedAnswer, alterListedOf}
-use Rattle.without.specs.Without.{without, allExist, takeOutAnswer, shortened, takeOutOf}
-use Rattle.writing.specs.Judge.{writable}
-use Rattle.mending.specs.Mending.{mendedFile, changesOf, nineAt, onlyNines, behindNine, mendOf}
-use Rattle.exporting.specs.Export.{exportOf}
-use Rattle.lining.specs.CommaLines.{exported}
+use Rattle.alter.specs.Alter.{alterListedAnswer, alterListedOf}
+use Rattle.recall_view.specs.RecallView.{without, allExist, takeOutAnswer, shortened, takeOutOf}
+use Rattle.table_write.specs.Judge.{writable}
+use Rattle.mend.specs.Mend.{mendedFile, changesOf, nineAt, onlyNines, behindNine, mendOf}
+use Rattle.csv_export.specs.Export.{exportOf}
+use Rattle.csv_export.specs.Lining.{exported}
 
 -- what is refused has a field and a record within these bounds
 pub record Bounded (x : Refusal) : Type 0 where

@@ -18,9 +18,9 @@ use Rattle.layout.specs.declared.Made.{Made}
 use Rattle.layout.specs.declared.Altered.{Altered}
 use Rattle.layout.specs.Fields.{part, entry, batchControl, fileControl}
 use Rattle.layout.specs.Paper.{paperOf}
-use Rattle.asking.specs.declared.AskedSpan.{AskedSpan}
-use Rattle.tally.specs.Tally.{start}
-use Rattle.records.specs.Run.{lengthFits, rawRecords, columnsIn, pieceOf, checkedOf}
+use Rattle.find_entry.specs.declared.AskedSpan.{AskedSpan}
+use Rattle.check_sums.specs.Sums.{start}
+use Rattle.check_record.specs.Record.{lengthFits, rawRecords, columnsIn, pieceOf, checkedOf}
 use Rattle.view.specs.View.{View, sumOver, debitOf, creditOf, amountOf, entriesOf, fileControlRecord, recordsOf, viewOf}
 use Rattle.view.specs.Table.{shaped, formed, tableOf, viewOfTable}
 use Rattle.view.specs.Outcome.{made, readOf, writeOf, alterOf, addendumAnswer, addendumOf, entryAt, spotOf, entryNumber, batchControlNumber, fileControlNumber, exists, alteredTable}
@@ -28,19 +28,19 @@ use Rattle.view.specs.Sized.{All}
 use Rattle.view.specs.Runs.{Alterable}
 use Rattle.funds.specs.Funds.{rowsOf, trueList}
 use Rattle.funds.specs.Outcome.{checkOf}
-use Rattle.relisting.specs.Listed.{alterListedOf}
+use Rattle.alter.specs.Alter.{alterListedOf}
 use Rattle.funds.proofs.CheckLaws.{check-own, check-leaves, check-exactly, check-gives}
 use Rattle.funds.proofs.FrontLaws.{begins-exactly}
-use Rattle.relisting.proofs.Listing.{listed-exactly, as-asked, listed-refused}
-use Rattle.bridge.proofs.Formed.{BatchControlFields, FileControlFields, file-control-fields}
-use Rattle.bridge.proofs.AmendFile.{fieldAt, Outside}
-use Rattle.bridge.proofs.Bridge.{FileOf, accepted-exactly, only-view}
-use Rattle.bridge.proofs.Own.{Told, own-entries, own-controls, own-records, own-table}
-use Rattle.bridge.proofs.RoundTrips.{read-done, write-done, read-write, write-read}
-use Rattle.bridge.proofs.Alter.{alter-exactly, alter-leaves, alter-accepted, alter-table, alter-length, alter-bytes, alter-difference, alter-same}
-use Rattle.asking.proofs.Addenda.{granted-there, part-refused, handed}
+use Rattle.alter.proofs.Listing.{listed-exactly, as-asked, listed-refused}
+use Rattle.view_laws.proofs.Formed.{BatchControlFields, FileControlFields, file-control-fields}
+use Rattle.view_laws.proofs.AmendFile.{fieldAt, Outside}
+use Rattle.view_laws.proofs.Bridge.{FileOf, accepted-exactly, only-view}
+use Rattle.view_laws.proofs.Own.{Told, own-entries, own-controls, own-records, own-table}
+use Rattle.view_laws.proofs.RoundTrips.{read-done, write-done, read-write, write-read}
+use Rattle.view_laws.proofs.Alter.{alter-exactly, alter-leaves, alter-accepted, alter-table, alter-length, alter-bytes, alter-difference, alter-same}
+use Rattle.find_entry.proofs.Addenda.{granted-there, part-refused, handed}
 use Rattle.ach.specs.Contracts.{Checks, Reads, Writes, Alters, HandsOut, Explains, Spans}
-use Rattle.told.proofs.Laws.{number-range}
+use Rattle.ach.proofs.ToldLaws.{number-range}
 use Rattle.ach.proofs.First.{First, refused-first}
 use Rattle.ach.proofs.Grants.{read-leaves, write-leaves, read-exactly, write-exactly, write-file, done}
 use Rattle.layout.specs.declared.Way.{Way}

@@ -18,19 +18,19 @@ use Rattle.layout.specs.declared.Line.{Line}
 use Rattle.layout.specs.declared.Row.{Row}
 use Rattle.layout.specs.declared.Way.{Way}
 use Rattle.layout.specs.Fields.{entry, part, rowsOf, firstField}
-use Rattle.codes.specs.declared.Code.{Code}
-use Rattle.codes.specs.Codes.{codeOf, known, allowed, carries, remits}
-use Rattle.kinds.specs.declared.Mark.{Mark}
-use Rattle.kinds.specs.Kinds.{need}
-use Rattle.own.specs.Rules.{isAccount, account}
-use Rattle.near.specs.declared.Sums.{Sums}
-use Rattle.near.specs.Near.{entryCode, batchClass, codeRule, amountRule, flagRule, traceBank, batchBank, traceNumber, traceFollows, traceRule}
-use Rattle.rules.specs.Field.{fieldOf}
-use Rattle.tally.specs.declared.State.{State}
-use Rattle.records.specs.declared.Verdict.{Verdict}
-use Rattle.records.specs.declared.Stepped.{Stepped}
-use Rattle.tally.specs.Tally.{start, tally}
-use Rattle.records.specs.Run.{Piece, found, fieldsFrom, lineOf, stepped, closing, recordOf, refused, onward, runFrom, lengthFits, rawRecords, pieceOf, checkedOf}
+use Rattle.check_codes.specs.declared.Code.{Code}
+use Rattle.check_codes.specs.Codes.{codeOf, known, allowed, carries, remits}
+use Rattle.check_alone.specs.declared.Mark.{Mark}
+use Rattle.check_alone.specs.Kinds.{need}
+use Rattle.check_alone.specs.Own.{isAccount, account}
+use Rattle.check_across.specs.declared.Sums.{Sums}
+use Rattle.check_across.specs.Across.{entryCode, batchClass, codeRule, amountRule, flagRule, traceBank, batchBank, traceNumber, traceFollows, traceRule}
+use Rattle.check_field.specs.Field.{fieldOf}
+use Rattle.check_sums.specs.declared.State.{State}
+use Rattle.check_record.specs.declared.Verdict.{Verdict}
+use Rattle.check_record.specs.declared.Stepped.{Stepped}
+use Rattle.check_sums.specs.Sums.{start, tally}
+use Rattle.check_record.specs.Record.{Piece, found, fieldsFrom, lineOf, stepped, closing, recordOf, refused, onward, runFrom, lengthFits, rawRecords, pieceOf, checkedOf}
 use Rattle.view.specs.Sized.{All}
 use Rattle.ach.specs.Earlier.{Rule, fieldsBy, recordBy, runBy, checkedBy, codeBefore, unremitted, isUnlettered, accountUnlettered, unlettered, traceInTurn, traceUnskipped, unskipped}
 

@@ -14,16 +14,16 @@ use Rattle.layout.specs.declared.Fault.{Fault}
 use Rattle.layout.specs.declared.Line.{Line}
 use Rattle.layout.specs.declared.Way.{Way}
 use Rattle.layout.specs.Fields.{rowsOf, firstField}
-use Rattle.codes.specs.Codes.{codeOf, codeRow, known, remits}
-use Rattle.near.specs.Near.{entryCode, entryAmount}
-use Rattle.order.specs.Order.{complete}
-use Rattle.tally.specs.declared.State.{State}
-use Rattle.tally.specs.Tally.{addToRow, start, tally}
-use Rattle.records.specs.declared.Verdict.{Verdict}
-use Rattle.records.specs.declared.Stepped.{Stepped}
-use Rattle.records.specs.Run.{Piece, lineOf, stepped, closing, refused, accepted, onward, lengthFits, rawRecords, pieceOf, checkedOf}
+use Rattle.check_codes.specs.Codes.{codeOf, codeRow, known, remits}
+use Rattle.check_across.specs.Across.{entryCode, entryAmount}
+use Rattle.check_order.specs.Order.{complete}
+use Rattle.check_sums.specs.declared.State.{State}
+use Rattle.check_sums.specs.Sums.{addToRow, start, tally}
+use Rattle.check_record.specs.declared.Verdict.{Verdict}
+use Rattle.check_record.specs.declared.Stepped.{Stepped}
+use Rattle.check_record.specs.Record.{Piece, lineOf, stepped, closing, refused, accepted, onward, lengthFits, rawRecords, pieceOf, checkedOf}
 use Rattle.view.specs.Keeps.{codes}
-use Rattle.bridge.proofs.Own.{code-back}
+use Rattle.view_laws.proofs.Own.{code-back}
 use Rattle.ach.specs.Earlier.{fieldsBy, recordBy, runBy, checkedBy, unremitted}
 use Rattle.ach.proofs.Earlier.{RightBy, refused-never, passed-by, passed-right, told, money, same-code, remittances-keep}
 

@@ -13,11 +13,11 @@ use lib.ListN.{length, getD, take, drop, replicate, length-append, length-take, 
 use lib.Seq.{take-at, drop-append-add, getD-at}
 use Rattle.text.specs.Decimal.{pick, every, isDigit, digits, digitOf, valueFrom, value, render}
 use Rattle.text.proofs.DecimalLaws.{and-both, both-and, every-take, every-drop, value-append, value-from, value-lt, render-value}
-use Rattle.cells.specs.declared.Scan.{Scan}
-use Rattle.cells.specs.Grammar.{isQuotedData, sizeFrom, endsFrom, cellOf, innerOf, undoubled, textOf, filledTo}
-use Rattle.comma.specs.Entries.{amountForm, centsIn, amountRight}
-use Rattle.quoting.specs.Quoting.{inFront, trimmed, escaped, doubled, quoted, unpadded, amountText}
-use Rattle.quoting.proofs.FieldLaws.{quoted-size}
+use Rattle.csv_cells.specs.declared.Scan.{Scan}
+use Rattle.csv_cells.specs.Cells.{isQuotedData, sizeFrom, endsFrom, cellOf, innerOf, undoubled, textOf, filledTo}
+use Rattle.csv_entry.specs.Entries.{amountForm, centsIn, amountRight}
+use Rattle.csv_export.specs.Quoting.{inFront, trimmed, escaped, doubled, quoted, unpadded, amountText}
+use Rattle.csv_export.proofs.FieldLaws.{quoted-size}
 
 -- "bytes 0x20 to 0x7E"
 abbrev pub isPrintable : ℕ → Bool

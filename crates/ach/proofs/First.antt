@@ -13,17 +13,17 @@ use Rattle.layout.specs.declared.Answer.{Answer}
 use Rattle.layout.specs.declared.Refusal.{Refusal}
 use Rattle.layout.specs.declared.Row.{Row}
 use Rattle.layout.specs.Fields.{rowsOf, firstField}
-use Rattle.kinds.specs.declared.Mark.{Mark}
-use Rattle.near.specs.declared.Sums.{Sums}
-use Rattle.rules.specs.Field.{fieldOf}
-use Rattle.tally.specs.declared.State.{State}
-use Rattle.records.specs.declared.Verdict.{Verdict}
-use Rattle.order.specs.Order.{complete}
-use Rattle.tally.specs.Tally.{start, tally}
-use Rattle.records.specs.Run.{found, fieldsFrom, lineOf, Piece, closing, stepped, recordOf, refused, accepted, runFrom, lengthFits, rawRecords, pieceOf, checkedOf}
+use Rattle.check_alone.specs.declared.Mark.{Mark}
+use Rattle.check_across.specs.declared.Sums.{Sums}
+use Rattle.check_field.specs.Field.{fieldOf}
+use Rattle.check_sums.specs.declared.State.{State}
+use Rattle.check_record.specs.declared.Verdict.{Verdict}
+use Rattle.check_order.specs.Order.{complete}
+use Rattle.check_sums.specs.Sums.{start, tally}
+use Rattle.check_record.specs.Record.{found, fieldsFrom, lineOf, Piece, closing, stepped, recordOf, refused, accepted, runFrom, lengthFits, rawRecords, pieceOf, checkedOf}
 use Rattle.view.specs.Keeps.{Right}
-use Rattle.bridge.proofs.Answers.{not-granted}
-use Rattle.bridge.proofs.BridgeFields.{passed-right}
+use Rattle.view_laws.proofs.Answers.{not-granted}
+use Rattle.view_laws.proofs.BridgeFields.{passed-right}
 use Rattle.ach.proofs.Bounds.{one-more, carried}
 use Rattle.layout.specs.declared.Way.{Way}
 

@@ -15,20 +15,20 @@ use Rattle.layout.specs.declared.Fault.{Fault}
 use Rattle.layout.specs.declared.Answer.{Answer}
 use Rattle.layout.specs.declared.Refusal.{Refusal}
 use Rattle.layout.specs.declared.Made.{Made}
-use Rattle.records.specs.Run.{checkedOf}
+use Rattle.check_record.specs.Record.{checkedOf}
 use Rattle.view.specs.View.{entriesOf, amountOf, fileOf, viewOf}
 use Rattle.view.specs.Table.{shaped, formed, tableOf}
 use Rattle.view.specs.Outcome.{demand, andThen, room, made, readOf, writeOf, noEntry, entryAt, amend, alterOf}
 use Rattle.layout.specs.Paper.{refusal}
 use Rattle.view.specs.Sized.{SizedEntry}
-use Rattle.bridge.proofs.Answers.{not-granted, demand-granted, then-granted}
-use Rattle.bridge.proofs.Bridge.{accepted-view}
-use Rattle.bridge.proofs.Lists.{all-at}
-use Rattle.bridge.proofs.Reading.{view-of-file}
-use Rattle.bridge.proofs.Tables.{entries-sized, formed-of-table}
-use Rattle.bridge.proofs.Amend.{amended-amount, entry-amended, amend-sized, table-amended}
-use Rattle.bridge.proofs.RoundTrips.{file-back, read-done, write-done}
-use Rattle.bridge.proofs.Alter.{alter-exactly, alter-leaves}
+use Rattle.view_laws.proofs.Answers.{not-granted, demand-granted, then-granted}
+use Rattle.view_laws.proofs.Bridge.{accepted-view}
+use Rattle.view_laws.proofs.Lists.{all-at}
+use Rattle.view_laws.proofs.Reading.{view-of-file}
+use Rattle.view_laws.proofs.Tables.{entries-sized, formed-of-table}
+use Rattle.view_laws.proofs.Amend.{amended-amount, entry-amended, amend-sized, table-amended}
+use Rattle.view_laws.proofs.RoundTrips.{file-back, read-done, write-done}
+use Rattle.view_laws.proofs.Alter.{alter-exactly, alter-leaves}
 use Rattle.layout.specs.declared.Way.{Way}
 
 -- ---- the answer of what was made

@@ -14,7 +14,7 @@ use Rattle.layout.specs.declared.Answer.{Answer}
 use Rattle.layout.specs.declared.Checked.{Checked}
 use Rattle.layout.specs.declared.Made.{Made}
 use Rattle.layout.specs.declared.Altered.{Altered}
-use Rattle.records.specs.Run.{checkedOf}
+use Rattle.check_record.specs.Record.{checkedOf}
 use Rattle.view.specs.View.{amountOf, fileOf, viewOf}
 use Rattle.view.specs.Table.{tableBytes, tableOf}
 use Rattle.view.specs.Outcome.{entryAt}
@@ -23,14 +23,14 @@ use Rattle.funds.specs.declared.RunsOut.{RunsOut}
 use Rattle.funds.specs.Funds.{rowsOf, inFront, beginsWith, trueList}
 use Rattle.funds.proofs.Examples.{asks, altered}
 use Rattle.funds.proofs.CheckLaws.{check-done}
-use Rattle.relisting.proofs.Listing.{listed-exactly, as-asked, listed-step}
-use Rattle.bridge.proofs.Alter.{alter-exactly}
-use Rattle.bridge.proofs.Own.{own-entries}
-use Rattle.bridge.proofs.RoundTrips.{read-done}
-use Rattle.bridge.proofs.Whole.{whole, whole-accepted}
+use Rattle.alter.proofs.Listing.{listed-exactly, as-asked, listed-step}
+use Rattle.view_laws.proofs.Alter.{alter-exactly}
+use Rattle.view_laws.proofs.Own.{own-entries}
+use Rattle.view_laws.proofs.RoundTrips.{read-done}
+use Rattle.view_laws.proofs.Whole.{whole, whole-accepted}
 use Rattle.view.proofs.Across.{two, across}
-use Rattle.without.proofs.Left.{some-distinct}
-use Rattle.without.proofs.Examples.{recalled}
+use Rattle.recall_view.proofs.Left.{some-distinct}
+use Rattle.recall_view.proofs.Examples.{recalled}
 use Rattle.ach.specs.Contracts.{Checks, Finds, Reads, Alters, TakesOut, Run}
 use Rattle.ach.proofs.Money.{as-the-file, checked-short, other-rows}
 use Rattle.ach.proofs.Runs.{permitted}

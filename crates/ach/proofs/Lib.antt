@@ -13,3 +13,4 @@ pub mod FieldBack
 pub mod LineBack
 pub mod RoundTrip
 pub mod Lists
+pub mod ToldLaws

@@ -15,15 +15,15 @@ use Rattle.text.proofs.DecimalLaws.{both-and, every-append, every-take, every-d
 use Rattle.text.proofs.RowLaws.{joined-cut}
 use Rattle.layout.specs.declared.Answer.{Answer}
 use Rattle.layout.specs.declared.Fault.{Fault}
-use Rattle.records.specs.declared.Verdict.{Verdict}
+use Rattle.check_record.specs.declared.Verdict.{Verdict}
 use Rattle.view.specs.Sized.{All}
-use Rattle.cells.specs.declared.Cell.{Cell}
-use Rattle.cells.specs.Grammar.{cellOf, textOf, stopFrom, textFrom, fieldsRight, textsFrom, lastStop, sizeBy, sixFields, sixTexts, lineSize, linesFrom, linesIn, filledTo}
-use Rattle.comma.specs.Entries.{try, textsVerdict, lineVerdict, allColumns, restOfRow, rowOfLine, entriesOfLines}
-use Rattle.comma.specs.Import.{lineAnswer, linesAnswer}
-use Rattle.quoting.specs.Quoting.{trimmed, quoted, unpadded, amountText}
-use Rattle.lining.specs.CommaLines.{lineFields, commaLine, lineOfRow}
-use Rattle.quoting.proofs.FieldLaws.{trimmed-take, trimmed-short}
+use Rattle.csv_cells.specs.declared.Cell.{Cell}
+use Rattle.csv_cells.specs.Cells.{cellOf, textOf, stopFrom, textFrom, fieldsRight, textsFrom, lastStop, sizeBy, sixFields, sixTexts, lineSize, linesFrom, linesIn, filledTo}
+use Rattle.csv_entry.specs.Entries.{try, textsVerdict, lineVerdict, allColumns, restOfRow, rowOfLine, entriesOfLines}
+use Rattle.csv_entry.specs.Import.{lineAnswer, linesAnswer}
+use Rattle.csv_export.specs.Quoting.{trimmed, quoted, unpadded, amountText}
+use Rattle.csv_export.specs.Lining.{lineFields, commaLine, lineOfRow}
+use Rattle.csv_export.proofs.FieldLaws.{trimmed-take, trimmed-short}
 use Rattle.ach.proofs.FieldBack.{isPrintable, cell-back, text-back, filled-back, unpadded-every, right-back, digits-back}
 
 -- ---- a field of the line that begins at a byte

@@ -13,22 +13,22 @@ use Rattle.layout.specs.declared.Refusal.{Refusal}
 use Rattle.layout.specs.declared.Made.{Made}
 use Rattle.layout.specs.declared.Fault.{Fault}
 use Rattle.layout.specs.declared.Way.{Way}
-use Rattle.records.specs.Run.{checkedOf}
+use Rattle.check_record.specs.Record.{checkedOf}
 use Rattle.view.specs.View.{entriesOf, viewOf}
 use Rattle.view.specs.Table.{shaped, formed, tableBytes}
 use Rattle.view.specs.Outcome.{demand, andThen, made, room}
 use Rattle.layout.specs.Paper.{refusal}
-use Rattle.bridge.proofs.Answers.{not-granted, then-granted, demand-granted}
-use Rattle.bridge.proofs.Tables.{view-of-table, view-of-formed}
-use Rattle.writing.specs.Judge.{writable}
-use Rattle.cells.specs.Grammar.{linesIn}
-use Rattle.comma.specs.Entries.{entriesOfLines}
-use Rattle.comma.specs.Import.{linesAnswer, bankIn, importView, importTable, rowsFit, importAnswer, importOf}
-use Rattle.lining.specs.CommaLines.{exported}
-use Rattle.exporting.specs.Export.{exportOf}
+use Rattle.view_laws.proofs.Answers.{not-granted, then-granted, demand-granted}
+use Rattle.view_laws.proofs.Tables.{view-of-table, view-of-formed}
+use Rattle.table_write.specs.Judge.{writable}
+use Rattle.csv_cells.specs.Cells.{linesIn}
+use Rattle.csv_entry.specs.Entries.{entriesOfLines}
+use Rattle.csv_entry.specs.Import.{linesAnswer, bankIn, importView, importTable, rowsFit, importAnswer, importOf}
+use Rattle.csv_export.specs.Lining.{exported}
+use Rattle.csv_export.specs.Export.{exportOf}
 use Rattle.ach.proofs.RoundTrip.{SameFields, export-import}
-use Rattle.listing.proofs.TableLaws.{entries-many, import-sized}
-use Rattle.importing.proofs.Judging.{table-right, rows-fit, import-granted}
+use Rattle.csv_import.proofs.TableLaws.{entries-many, import-sized}
+use Rattle.csv_import.proofs.Judging.{table-right, rows-fit, import-granted}
 use Rattle.ach.specs.Contracts.{Imports, Exports}
 use Rattle.ach.proofs.Grants.{answered, made-refused, room-granted}
 

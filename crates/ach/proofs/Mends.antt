@@ -16,17 +16,17 @@ use Rattle.layout.specs.declared.Answer.{Answer}
 use Rattle.layout.specs.declared.Refusal.{Refusal}
 use Rattle.layout.specs.declared.Way.{Way}
 use Rattle.layout.specs.Paper.{refusal}
-use Rattle.records.specs.Run.{lengthFits, rawRecords, checkedOf}
+use Rattle.check_record.specs.Record.{lengthFits, rawRecords, checkedOf}
 use Rattle.view.specs.View.{viewOf, fileOf}
 use Rattle.view.specs.Table.{formed, tableOf}
-use Rattle.mending.specs.declared.Mended.{Mended}
-use Rattle.mending.specs.Mending.{Mending, mendedFile, changesOf, behindNine, mendAnswer, mendOf}
-use Rattle.mending.proofs.Examples.{Worked, worked, sent, total-wrong, total-mended, damaged}
-use Rattle.mended.specs.Listed.{ListOf}
-use Rattle.mended.proofs.Granted.{Grants, exactly-granted, refused-length, refused-mended, refused-behind, refused-room, mend-granted, mend-refused, accepted-granted}
-use Rattle.mended.proofs.Stays.{mended-accepted, accepted-unchanged}
-use Rattle.mended.proofs.Says.{granted-view, granted-file, granted-table}
-use Rattle.mended.proofs.Complete.{granted-list}
+use Rattle.mend.specs.declared.Mended.{Mended}
+use Rattle.mend.specs.Mend.{Mending, mendedFile, changesOf, behindNine, mendAnswer, mendOf}
+use Rattle.mend.proofs.Examples.{Worked, worked, sent, total-wrong, total-mended, damaged}
+use Rattle.mend.specs.Listed.{ListOf}
+use Rattle.mend.proofs.Granted.{Grants, exactly-granted, refused-length, refused-mended, refused-behind, refused-room, mend-granted, mend-refused, accepted-granted}
+use Rattle.mend.proofs.Stays.{mended-accepted, accepted-unchanged}
+use Rattle.mend.proofs.Says.{granted-view, granted-file, granted-table}
+use Rattle.mend.proofs.Complete.{granted-list}
 use Rattle.ach.specs.Contracts.{Mends}
 
 module _ (way : Way) where

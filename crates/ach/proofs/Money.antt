@@ -15,20 +15,20 @@ use Rattle.layout.specs.declared.Refusal.{Refusal}
 use Rattle.layout.specs.declared.Checked.{Checked}
 use Rattle.layout.specs.declared.Altered.{Altered}
 use Rattle.layout.specs.declared.Way.{Way}
-use Rattle.records.specs.Run.{refused, checkedOf}
+use Rattle.check_record.specs.Record.{refused, checkedOf}
 use Rattle.view.specs.View.{View, viewOf}
 use Rattle.view.specs.Outcome.{alterOf}
 use Rattle.layout.specs.Paper.{refusal}
-use Rattle.bridge.proofs.Alter.{alter-exactly}
-use Rattle.bridge.proofs.Bridge.{FileOf, accepted-exactly}
-use Rattle.bridge.proofs.Own.{own-entries}
+use Rattle.view_laws.proofs.Alter.{alter-exactly}
+use Rattle.view_laws.proofs.Bridge.{FileOf, accepted-exactly}
+use Rattle.view_laws.proofs.Own.{own-entries}
 use Rattle.funds.specs.declared.RunsOut.{RunsOut}
 use Rattle.funds.specs.Funds.{rowsOf, inFront, trueList, runsOut}
 use Rattle.funds.specs.Summed.{summed, FirstOver, NoneOver}
 use Rattle.funds.proofs.Asked.{found-first, found-none, lone-number, own-list}
 use Rattle.funds.proofs.CheckLaws.{check-own, check-short, check-done, check-exactly, check-leaves}
 use Rattle.funds.proofs.RowLaws.{rows-long}
-use Rattle.relisting.proofs.Listing.{listed-exactly, listed-step, as-asked, other-list}
+use Rattle.alter.proofs.Listing.{listed-exactly, listed-step, as-asked, other-list}
 use Rattle.ach.specs.Contracts.{Checks, Finds, Alters}
 
 module _ (way : Way) where

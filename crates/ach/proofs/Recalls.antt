@@ -14,12 +14,12 @@ use Rattle.layout.specs.declared.Refusal.{Refusal}
 use Rattle.layout.specs.declared.Checked.{Checked}
 use Rattle.layout.specs.declared.Made.{Made}
 use Rattle.layout.specs.declared.Way.{Way}
-use Rattle.records.specs.Run.{checkedOf}
+use Rattle.check_record.specs.Record.{checkedOf}
 use Rattle.view.specs.View.{sumOver, debitOf, creditOf, entriesOf, viewOf}
 use Rattle.view.specs.Table.{formed, tableOf}
 use Rattle.view.specs.Outcome.{made, writeOf, exists}
 use Rattle.layout.specs.Paper.{refusal}
-use Rattle.bridge.proofs.Own.{Told, own-entries}
+use Rattle.view_laws.proofs.Own.{Told, own-entries}
 use Rattle.funds.specs.declared.RunsOut.{RunsOut}
 use Rattle.funds.specs.Funds.{rowsOf, inFront, beginsWith, trueList, runsOut}
 use Rattle.funds.specs.Summed.{summed}
@@ -27,10 +27,10 @@ use Rattle.funds.proofs.Asked.{own-list}
 use Rattle.funds.proofs.CheckLaws.{check-done}
 use Rattle.funds.proofs.FrontLaws.{front-begins, front-front, front-long}
 use Rattle.funds.proofs.RowLaws.{rows-long}
-use Rattle.without.specs.Without.{named, without, tableWithout, allExist, takeOutOf}
-use Rattle.without.specs.Gone.{goneOf, distinct}
-use Rattle.without.proofs.Left.{sum-without, length-without, length-gone}
-use Rattle.without.proofs.TakenOut.{take-out-exactly, take-out-refused, take-out-written, take-out-blanks, take-out-length, take-out-accepted, take-out-view, take-out-table, take-out-rows, take-out-none, refused-own, refused-number, refused-none, refused-room, same-outcome, list-unread}
+use Rattle.recall_view.specs.RecallView.{named, without, tableWithout, allExist, takeOutOf}
+use Rattle.recall_view.specs.Gone.{goneOf, distinct}
+use Rattle.recall_view.proofs.Left.{sum-without, length-without, length-gone}
+use Rattle.recall_view.proofs.TakenOut.{take-out-exactly, take-out-refused, take-out-written, take-out-blanks, take-out-length, take-out-accepted, take-out-view, take-out-table, take-out-rows, take-out-none, refused-own, refused-number, refused-none, refused-room, same-outcome, list-unread}
 use Rattle.ach.specs.Contracts.{Checks, Finds, Writes, TakesOut}
 use Rattle.ach.proofs.Grants.{write-file, done}
 

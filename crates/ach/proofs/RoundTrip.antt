@@ -17,29 +17,29 @@ use Rattle.layout.specs.declared.Answer.{Answer}
 use Rattle.layout.specs.declared.Fault.{Fault}
 use Rattle.layout.specs.declared.Way.{Way}
 use Rattle.layout.specs.Fields.{entry, part}
-use Rattle.kinds.specs.Kinds.{isText}
-use Rattle.own.specs.Rules.{isAccount}
-use Rattle.near.specs.declared.Sums.{Sums}
-use Rattle.near.specs.Near.{entryTrace, batchNumber}
+use Rattle.check_alone.specs.Kinds.{isText}
+use Rattle.check_alone.specs.Own.{isAccount}
+use Rattle.check_across.specs.declared.Sums.{Sums}
+use Rattle.check_across.specs.Across.{entryTrace, batchNumber}
 use Rattle.view.specs.View.{Entry, Batch, View, entryRecord, batchRecord, recordsIn, entriesOf}
 use Rattle.view.specs.Table.{countWide, fileWide, headWide, batchWide, entryWide, tableBytes, rowsIn, entryPart, viewOfTable, addendaOf, addendaDue}
 use Rattle.view.specs.Sized.{All, SizedEntry, SizedBatch, Sized}
 use Rattle.view.specs.Keeps.{Right, seen, EntriesKeep, BatchesKeep}
 use Rattle.view.specs.Outcome.{andThen, made, room}
-use Rattle.bridge.proofs.Lists.{all-append}
-use Rattle.bridge.proofs.Answers.{not-granted, demand-granted, then-granted}
-use Rattle.bridge.proofs.Tables.{entriesIn, entries-sized, rows-of-entries, entry-part, shaped-sized, table-of-view}
-use Rattle.bridge.proofs.BridgeFields.{need-right}
-use Rattle.bridge.proofs.Bridge.{keeps-exactly}
+use Rattle.view_laws.proofs.Lists.{all-append}
+use Rattle.view_laws.proofs.Answers.{not-granted, demand-granted, then-granted}
+use Rattle.view_laws.proofs.Tables.{entriesIn, entries-sized, rows-of-entries, entry-part, shaped-sized, table-of-view}
+use Rattle.view_laws.proofs.BridgeFields.{need-right}
+use Rattle.view_laws.proofs.Bridge.{keeps-exactly}
 use Rattle.text.proofs.SetLaws.{drop-take}
-use Rattle.writing.specs.Judge.{writable}
-use Rattle.writing.proofs.WriteLaws.{shape-right, file-right}
-use Rattle.cells.specs.Grammar.{linesIn}
-use Rattle.comma.specs.Entries.{restOfRow, rowOfLine, entriesOfLines}
-use Rattle.comma.specs.Import.{linesAnswer, bankIn, importTable, mostLines, rowsFit, importAnswer, importOf}
-use Rattle.listing.proofs.TableLaws.{no-addenda, oneBatch, one-sized}
-use Rattle.lining.specs.CommaLines.{lineOfRow, exported}
-use Rattle.exporting.specs.Export.{exportOf}
+use Rattle.table_write.specs.Judge.{writable}
+use Rattle.table_write.proofs.WriteLaws.{shape-right, file-right}
+use Rattle.csv_cells.specs.Cells.{linesIn}
+use Rattle.csv_entry.specs.Entries.{restOfRow, rowOfLine, entriesOfLines}
+use Rattle.csv_entry.specs.Import.{linesAnswer, bankIn, importTable, mostLines, rowsFit, importAnswer, importOf}
+use Rattle.csv_import.proofs.TableLaws.{no-addenda, oneBatch, one-sized}
+use Rattle.csv_export.specs.Lining.{lineOfRow, exported}
+use Rattle.csv_export.specs.Export.{exportOf}
 use Rattle.ach.proofs.FieldBack.{isPrintable}
 use Rattle.ach.proofs.LineBack.{Plain, printable-by, digit-printable, digits-printable, row-back, linesOf, tailsOf, lines-back, lines-granted, fields-again}
 

@@ -11,16 +11,16 @@ use Rattle.layout.specs.declared.Refusal.{Refusal}
 use Rattle.layout.specs.declared.Made.{Made}
 use Rattle.layout.specs.declared.Altered.{Altered}
 use Rattle.layout.specs.declared.Way.{Way}
-use Rattle.records.specs.Run.{checkedOf}
+use Rattle.check_record.specs.Record.{checkedOf}
 use Rattle.view.specs.View.{viewOf}
 use Rattle.view.specs.Table.{formed, tableOf}
 use Rattle.view.specs.Outcome.{made, writeOf, alteredTable, alterOf}
 use Rattle.view.specs.Runs.{isGranted, tableRun, alterRun}
-use Rattle.bridge.proofs.Alter.{may-put, alter-step, run-table, run-file}
+use Rattle.view_laws.proofs.Alter.{may-put, alter-step, run-table, run-file}
 use Rattle.funds.specs.Funds.{rowsOf, inFront, trueList}
-use Rattle.relisting.specs.Listed.{alterListedOf}
+use Rattle.alter.specs.Alter.{alterListedOf}
 use Rattle.funds.proofs.FrontLaws.{front-begins, front-same, front-front}
-use Rattle.relisting.proofs.Listing.{as-asked, file-first, other-list, listed-step}
+use Rattle.alter.proofs.Listing.{as-asked, file-first, other-list, listed-step}
 use Rattle.ach.specs.Contracts.{Writes, Alters, Run}
 use Rattle.ach.proofs.Demands.{alter-ends}
 use Rattle.ach.proofs.Grants.{write-file, done}

@@ -9,17 +9,17 @@ use Rattle.layout.specs.declared.Checked.{Checked}
 use Rattle.layout.specs.declared.Made.{Made}
 use Rattle.layout.specs.declared.Altered.{Altered}
 use Rattle.layout.specs.declared.Way.{Way}
-use Rattle.asking.specs.declared.AskedSpan.{AskedSpan}
+use Rattle.find_entry.specs.declared.AskedSpan.{AskedSpan}
 use Rattle.funds.specs.declared.RunsOut.{RunsOut}
 use Rattle.funds.specs.Funds.{runsOut}
 use Rattle.funds.specs.Outcome.{checkOf}
-use Rattle.relisting.specs.Listed.{alterListedOf}
-use Rattle.comma.specs.Import.{importOf}
-use Rattle.exporting.specs.Export.{exportOf}
+use Rattle.alter.specs.Alter.{alterListedOf}
+use Rattle.csv_entry.specs.Import.{importOf}
+use Rattle.csv_export.specs.Export.{exportOf}
 use Rattle.view.specs.Outcome.{readOf, writeOf, addendumAnswer, addendumOf}
-use Rattle.without.specs.Without.{takeOutOf}
-use Rattle.mending.specs.declared.Mended.{Mended}
-use Rattle.mending.specs.Mending.{mendOf}
+use Rattle.recall_view.specs.RecallView.{takeOutOf}
+use Rattle.mend.specs.declared.Mended.{Mended}
+use Rattle.mend.specs.Mend.{mendOf}
 
 -- check: the file f, and a lent list that held `held` and then holds `left`
 abbrev pub Checks : Way → List ℕ → List ℕ → Checked → List ℕ → Type 0

@@ -16,19 +16,19 @@ use Rattle.layout.specs.declared.Own.{Own}
 use Rattle.layout.specs.declared.Row.{Row}
 use Rattle.layout.specs.declared.Way.{Way}
 use Rattle.layout.specs.Fields.{rowsOf, firstField}
-use Rattle.codes.specs.declared.Code.{Code}
-use Rattle.codes.specs.Codes.{codeOf, known, allowed, carries, remits}
-use Rattle.kinds.specs.declared.Mark.{Mark}
-use Rattle.kinds.specs.Kinds.{need, blank}
-use Rattle.own.specs.Rules.{unbroken, ownRule}
-use Rattle.near.specs.declared.Sums.{Sums}
-use Rattle.near.specs.Near.{entryCode, batchClass, traceBank, traceNumber, batchBank, nearRule}
-use Rattle.rules.specs.Field.{kindRule}
-use Rattle.tally.specs.declared.State.{State}
-use Rattle.records.specs.declared.Verdict.{Verdict}
-use Rattle.records.specs.declared.Stepped.{Stepped}
-use Rattle.tally.specs.Tally.{start, tally}
-use Rattle.records.specs.Run.{Piece, found, lineOf, stepped, closing, refused, onward, finished, lengthFits, rawRecords, pieceOf}
+use Rattle.check_codes.specs.declared.Code.{Code}
+use Rattle.check_codes.specs.Codes.{codeOf, known, allowed, carries, remits}
+use Rattle.check_alone.specs.declared.Mark.{Mark}
+use Rattle.check_alone.specs.Kinds.{need, blank}
+use Rattle.check_alone.specs.Own.{unbroken, ownRule}
+use Rattle.check_across.specs.declared.Sums.{Sums}
+use Rattle.check_across.specs.Across.{entryCode, batchClass, traceBank, traceNumber, batchBank, nearRule}
+use Rattle.check_field.specs.Field.{kindRule}
+use Rattle.check_sums.specs.declared.State.{State}
+use Rattle.check_record.specs.declared.Verdict.{Verdict}
+use Rattle.check_record.specs.declared.Stepped.{Stepped}
+use Rattle.check_sums.specs.Sums.{start, tally}
+use Rattle.check_record.specs.Record.{Piece, found, lineOf, stepped, closing, refused, onward, finished, lengthFits, rawRecords, pieceOf}
 
 -- ---- the check by a rule for fields, whichever it is: with `fieldOf` it is the check
 

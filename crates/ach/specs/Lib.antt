@@ -1,2 +1,3 @@
 pub mod Earlier
 pub mod Contracts
+pub mod Told

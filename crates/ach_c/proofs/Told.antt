@@ -9,17 +9,17 @@ use native.Mathlib.Omega.{arith}
 use Rattle.layout.specs.declared.Answer.{Answer}
 use Rattle.layout.specs.Paper.{paperOf}
 use Rattle.funds.specs.Outcome.{checkOf}
-use Rattle.relisting.specs.Listed.{alterListedOf}
+use Rattle.alter.specs.Alter.{alterListedOf}
 use Rattle.view.specs.Outcome.{readOf, writeOf, addendumAnswer}
-use Rattle.without.specs.Without.{takeOutOf}
-use Rattle.mending.specs.Mending.{mendOf}
-use Rattle.comma.specs.Import.{importOf}
-use Rattle.exporting.specs.Export.{exportOf}
-use Rattle.bridge.proofs.Answers.{not-granted}
+use Rattle.recall_view.specs.RecallView.{takeOutOf}
+use Rattle.mend.specs.Mend.{mendOf}
+use Rattle.csv_entry.specs.Import.{importOf}
+use Rattle.csv_export.specs.Export.{exportOf}
+use Rattle.view_laws.proofs.Answers.{not-granted}
 use Rattle.layout.specs.declared.Way.{Way}
 use Rattle.ach.proofs.Bounds.{Coded, low-coded, import-coded, export-low, check-low, read-low, write-low, alter-low, recall-low, mend-low, addendum-low}
-use Rattle.told.proofs.Laws.{number-range}
-use Rattle.told.specs.Boundary.{codeOfAnswer}
+use Rattle.ach.proofs.ToldLaws.{number-range}
+use Rattle.ach.specs.Told.{codeOfAnswer}
 
 -- the code c gives the three numbers back, and is 0 exactly if it is granted
 pub record Told (c : ℕ) (a : Answer) : Type 0 where

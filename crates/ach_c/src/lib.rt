@@ -1,19 +1,16 @@
 // The boundary: thin, total functions on slices and numbers for callers in C, Rust and other languages (include/ach.h).
+use ach::told;
 use layout::Answer;
 use layout::EntryNo;
-ghost use mathlib.Core.Path.{_≡_};
-ghost use lib.Seq.{sets};
-ghost use Rattle.text.specs.Decimal.{pick};
 ghost use Rattle.funds.specs.Funds.{runsOut};
 ghost use Rattle.funds.specs.Outcome.{checkOf};
-ghost use Rattle.relisting.specs.Listed.{alterListedOf};
-ghost use Rattle.told.specs.Boundary.{wayOf, codeOfAnswer, numbersOf, numbersLeft, left};
-ghost use Rattle.ach_c.specs.Mended.{TellsMended};
-ghost use Rattle.ach_c.specs.Rows.{rowNumbers};
-ghost use Rattle.mending.specs.Mending.{mendOf};
-ghost use Rattle.comma.specs.Import.{importOf};
-ghost use Rattle.exporting.specs.Export.{exportOf};
-ghost use Rattle.without.specs.Without.{takeOutOf};
+ghost use Rattle.alter.specs.Alter.{alterListedOf};
+ghost use Rattle.ach.specs.Told.{wayOf};
+ghost use Rattle.ach_c.specs.Tells.{TellsChecked, TellsMade, TellsTakenOut, TellsMended, TellsAltered, TellsAsked, TellsFound};
+ghost use Rattle.mend.specs.Mend.{mendOf};
+ghost use Rattle.csv_entry.specs.Import.{importOf};
+ghost use Rattle.csv_export.specs.Export.{exportOf};
+ghost use Rattle.recall_view.specs.RecallView.{takeOutOf};
 ghost use Rattle.view.specs.Outcome.{readOf, writeOf, addendumAnswer, addendumOf};
 
 #[no_mangle]
@@ -23,7 +20,7 @@ pub extern "C" fn ach_check(
     acceptance: &mut [u64; 29],
     rows: &mut [u64],
 ) -> u64
-    ensures { λ r. ⌜ (r ≡ codeOfAnswer (checkOf (wayOf way) (now (file .entry)) (now (rows .entry)) .gives .answer)) × (now (acceptance .exit) ≡ numbersLeft (checkOf (wayOf way) (now (file .entry)) (now (rows .entry)) .gives .answer) (numbersOf (checkOf (wayOf way) (now (file .entry)) (now (rows .entry)) .gives)) (now (acceptance .entry))) × (now (rows .exit) ≡ checkOf (wayOf way) (now (file .entry)) (now (rows .entry)) .leaves) ⌝ }
+    ensures { λ r. ⌜ TellsChecked (checkOf (wayOf way) (now (file .entry)) (now (rows .entry))) (now (acceptance .entry)) r (now (acceptance .exit)) (now (rows .exit)) ⌝ }
 {
     let checked = ach::check(told::way_of(way), file, rows);
     told::tell_checked(checked, acceptance)
@@ -31,7 +28,7 @@ pub extern "C" fn ach_check(
 
 #[no_mangle]
 pub extern "C" fn ach_read(way: u64, file: &[u8], table: &mut [u8], length: &mut u64) -> u64
-    ensures { λ r. ⌜ (r ≡ codeOfAnswer (readOf (wayOf way) (now (file .entry)) (now (table .entry)) .gives .answer)) × (now (table .exit) ≡ readOf (wayOf way) (now (file .entry)) (now (table .entry)) .leaves) × (now (length .exit) ≡ left (readOf (wayOf way) (now (file .entry)) (now (table .entry)) .gives .answer) (readOf (wayOf way) (now (file .entry)) (now (table .entry)) .gives .length) (now (length .entry))) ⌝ }
+    ensures { λ r. ⌜ TellsMade (readOf (wayOf way) (now (file .entry)) (now (table .entry))) (now (length .entry)) r (now (table .exit)) (now (length .exit)) ⌝ }
 {
     let made = ach::read(told::way_of(way), file, table);
     told::tell_made(made, length)
@@ -39,7 +36,7 @@ pub extern "C" fn ach_read(way: u64, file: &[u8], table: &mut [u8], length: &mut
 
 #[no_mangle]
 pub extern "C" fn ach_write(way: u64, table: &[u8], file: &mut [u8], length: &mut u64) -> u64
-    ensures { λ r. ⌜ (r ≡ codeOfAnswer (writeOf (wayOf way) (now (table .entry)) (now (file .entry)) .gives .answer)) × (now (file .exit) ≡ writeOf (wayOf way) (now (table .entry)) (now (file .entry)) .leaves) × (now (length .exit) ≡ left (writeOf (wayOf way) (now (table .entry)) (now (file .entry)) .gives .answer) (writeOf (wayOf way) (now (table .entry)) (now (file .entry)) .gives .length) (now (length .entry))) ⌝ }
+    ensures { λ r. ⌜ TellsMade (writeOf (wayOf way) (now (table .entry)) (now (file .entry))) (now (length .entry)) r (now (file .exit)) (now (length .exit)) ⌝ }
 {
     let made = ach::write(told::way_of(way), table, file);
     told::tell_made(made, length)
@@ -53,7 +50,7 @@ pub extern "C" fn ach_import(
     table: &mut [u8],
     length: &mut u64,
 ) -> u64
-    ensures { λ r. ⌜ (r ≡ codeOfAnswer (importOf (now (filerow .entry)) (now (batchrow .entry)) (now (lines .entry)) (now (table .entry)) .gives .answer)) × (now (table .exit) ≡ importOf (now (filerow .entry)) (now (batchrow .entry)) (now (lines .entry)) (now (table .entry)) .leaves) × (now (length .exit) ≡ left (importOf (now (filerow .entry)) (now (batchrow .entry)) (now (lines .entry)) (now (table .entry)) .gives .answer) (importOf (now (filerow .entry)) (now (batchrow .entry)) (now (lines .entry)) (now (table .entry)) .gives .length) (now (length .entry))) ⌝ }
+    ensures { λ r. ⌜ TellsMade (importOf (now (filerow .entry)) (now (batchrow .entry)) (now (lines .entry)) (now (table .entry))) (now (length .entry)) r (now (table .exit)) (now (length .exit)) ⌝ }
 {
     let made = ach::import(filerow, batchrow, lines, table);
     told::tell_made(made, length)
@@ -61,7 +58,7 @@ pub extern "C" fn ach_import(
 
 #[no_mangle]
 pub extern "C" fn ach_export(table: &[u8], lines: &mut [u8], length: &mut u64) -> u64
-    ensures { λ r. ⌜ (r ≡ codeOfAnswer (exportOf (now (table .entry)) (now (lines .entry)) .gives .answer)) × (now (lines .exit) ≡ exportOf (now (table .entry)) (now (lines .entry)) .leaves) × (now (length .exit) ≡ left (exportOf (now (table .entry)) (now (lines .entry)) .gives .answer) (exportOf (now (table .entry)) (now (lines .entry)) .gives .length) (now (length .entry))) ⌝ }
+    ensures { λ r. ⌜ TellsMade (exportOf (now (table .entry)) (now (lines .entry))) (now (length .entry)) r (now (lines .exit)) (now (length .exit)) ⌝ }
 {
     let made = ach::export(table, lines);
     told::tell_made(made, length)
@@ -75,7 +72,7 @@ pub extern "C" fn ach_take_out(
     rows: &mut [u64],
     length: &mut u64,
 ) -> u64
-    ensures { λ r. ⌜ (r ≡ codeOfAnswer (takeOutOf (wayOf way) (now (file .entry)) (now (entries .entry)) (now (rows .entry)) .gives .answer)) × (now (file .exit) ≡ takeOutOf (wayOf way) (now (file .entry)) (now (entries .entry)) (now (rows .entry)) .leaves) × (now (rows .exit) ≡ takeOutOf (wayOf way) (now (file .entry)) (now (entries .entry)) (now (rows .entry)) .rows) × (now (length .exit) ≡ left (takeOutOf (wayOf way) (now (file .entry)) (now (entries .entry)) (now (rows .entry)) .gives .answer) (takeOutOf (wayOf way) (now (file .entry)) (now (entries .entry)) (now (rows .entry)) .gives .length) (now (length .entry))) ⌝ }
+    ensures { λ r. ⌜ TellsTakenOut (takeOutOf (wayOf way) (now (file .entry)) (now (entries .entry)) (now (rows .entry))) (now (length .entry)) r (now (file .exit)) (now (rows .exit)) (now (length .exit)) ⌝ }
 {
     let made = ach::take_out(told::way_of(way), file, entries, rows);
     told::tell_made(made, length)
@@ -111,7 +108,7 @@ pub extern "C" fn ach_alter(
     amount: u64,
     difference: &mut i64,
 ) -> u64
-    ensures { λ r. ⌜ (r ≡ codeOfAnswer (alterListedOf (wayOf way) (now (file .entry)) (now (rows .entry)) entry amount .gives .answer)) × (now (file .exit) ≡ alterListedOf (wayOf way) (now (file .entry)) (now (rows .entry)) entry amount .leaves) × (now (rows .exit) ≡ alterListedOf (wayOf way) (now (file .entry)) (now (rows .entry)) entry amount .rows) × (now (difference .exit) ≡ left (alterListedOf (wayOf way) (now (file .entry)) (now (rows .entry)) entry amount .gives .answer) (alterListedOf (wayOf way) (now (file .entry)) (now (rows .entry)) entry amount .gives .difference) (now (difference .entry))) ⌝ }
+    ensures { λ r. ⌜ TellsAltered (alterListedOf (wayOf way) (now (file .entry)) (now (rows .entry)) entry amount) (now (difference .entry)) r (now (file .exit)) (now (rows .exit)) (now (difference .exit)) ⌝ }
 {
     let altered = ach::alter(told::way_of(way), file, rows, EntryNo(entry), amount);
     told::tell_altered(altered, difference)
@@ -125,7 +122,7 @@ pub extern "C" fn ach_addendum(
     start: &mut u64,
     length: &mut u64,
 ) -> u64
-    ensures { λ r. ⌜ (r ≡ codeOfAnswer (addendumAnswer (wayOf way) (now (file .entry)) entry)) × (now (start .exit) ≡ left (addendumAnswer (wayOf way) (now (file .entry)) entry) (addendumOf (wayOf way) (now (file .entry)) entry .from) (now (start .entry))) × (now (length .exit) ≡ left (addendumAnswer (wayOf way) (now (file .entry)) entry) (addendumOf (wayOf way) (now (file .entry)) entry .size) (now (length .entry))) ⌝ }
+    ensures { λ r. ⌜ TellsAsked (addendumAnswer (wayOf way) (now (file .entry)) entry) (addendumOf (wayOf way) (now (file .entry)) entry) (now (start .entry)) (now (length .entry)) r (now (start .exit)) (now (length .exit)) ⌝ }
 {
     let span = ach::asked_span(told::way_of(way), file, EntryNo(entry));
     let answer = span.answer;
@@ -140,7 +137,7 @@ pub extern "C" fn ach_addendum(
 // 1 where a row is over the limit, and 0 where none is.
 #[no_mangle]
 pub extern "C" fn ach_runs_out(rows: &[u64], limit: u64, answer: &mut [u64; 3]) -> u64
-    ensures { λ r. ⌜ (r ≡ pick (runsOut limit (now (rows .entry)) .found) 1 0) × (now (answer .exit) ≡ sets (now (answer .entry)) 0 (rowNumbers (runsOut limit (now (rows .entry))))) ⌝ }
+    ensures { λ r. ⌜ TellsFound (runsOut limit (now (rows .entry))) (now (answer .entry)) r (now (answer .exit)) ⌝ }
 {
     let asked = ach::runs_out(rows, limit);
     answer[0] = asked.rows;

@@ -6,10 +6,10 @@ fn main() {
     let mut buffer = io::large_buffer();
     let n = io::read_full(STDIN_FILENO, &mut buffer);
     if 64860 < n {
-        lines::print_refusal(23, 0, 0);
+        print_line::print_refusal(23, 0, 0);
         return;
     }
     // 64,860 bytes hold no more than 229 batches
     let mut rows = [0u64; 458];
-    lines::print_checked(ach::check(Way::Plain, &buffer[..n], &mut rows));
+    print_line::print_checked(ach::check(Way::Plain, &buffer[..n], &mut rows));
 }

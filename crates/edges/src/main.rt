@@ -15,7 +15,7 @@ fn check_file(index: usize) {
     let n = io::read_full(fd, &mut buffer);
     libc::close(fd);
     let mut rows = [0u64; 458];
-    lines::print_checked(ach::check(layout::Way::Plain, &buffer[..n], &mut rows));
+    print_line::print_checked(ach::check(layout::Way::Plain, &buffer[..n], &mut rows));
 }
 
 fn main() {

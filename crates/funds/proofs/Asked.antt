@@ -12,12 +12,12 @@ use lib.ListN.{length, take, getD, length-append}
 use lib.Seq.{take-at}
 use Rattle.text.specs.Decimal.{pick}
 use Rattle.view.specs.View.{Batch, View, sumOver, recordsIn, creditOf, entriesOf, bodyOf, batchRecords, batchControlRecord}
-use Rattle.bridge.proofs.Amend.{recordsFor}
-use Rattle.bridge.proofs.BridgeFields.{never}
-use Rattle.bridge.proofs.BridgeSums.{entriesRecords}
-use Rattle.bridge.proofs.Lists.{fold-append, sum-append}
-use Rattle.bridge.proofs.Tables.{entriesIn}
-use Rattle.finding.proofs.Places.{length-entries}
+use Rattle.view_laws.proofs.Amend.{recordsFor}
+use Rattle.view_laws.proofs.BridgeFields.{never}
+use Rattle.view_laws.proofs.BridgeSums.{entriesRecords}
+use Rattle.view_laws.proofs.Lists.{fold-append, sum-append}
+use Rattle.view_laws.proofs.Tables.{entriesIn}
+use Rattle.find_entry.proofs.Places.{length-entries}
 use Rattle.funds.specs.declared.RunsOut.{RunsOut}
 use Rattle.funds.specs.Funds.{notFound, runsOutFrom, runsOut, rowsFrom, rowsOf}
 use Rattle.funds.specs.Summed.{creditsTo, controlAt, summedFrom, summed, FirstOver, NoneOver}

@@ -15,16 +15,16 @@ use Rattle.layout.specs.declared.Checked.{Checked}
 use Rattle.layout.specs.declared.Fault.{Fault}
 use Rattle.layout.specs.declared.Refusal.{Refusal}
 use Rattle.layout.specs.declared.Way.{Way}
-use Rattle.order.specs.Order.{complete}
-use Rattle.tally.specs.declared.State.{State}
-use Rattle.tally.specs.Tally.{start}
-use Rattle.records.specs.declared.Verdict.{Verdict}
-use Rattle.records.specs.Run.{Piece, recordOf, refused, accepted, onward, runFrom, lengthFits, rawRecords, pieceOf, checkedOf}
+use Rattle.check_order.specs.Order.{complete}
+use Rattle.check_sums.specs.declared.State.{State}
+use Rattle.check_sums.specs.Sums.{start}
+use Rattle.check_record.specs.declared.Verdict.{Verdict}
+use Rattle.check_record.specs.Record.{Piece, recordOf, refused, accepted, onward, runFrom, lengthFits, rawRecords, pieceOf, checkedOf}
 use Rattle.view.specs.View.{viewOf}
 use Rattle.view.specs.Outcome.{demand, andThen}
 use Rattle.layout.specs.Paper.{refusal}
-use Rattle.bridge.proofs.Answers.{not-granted, demand-granted, then-granted}
-use Rattle.bridge.proofs.Own.{own-entries}
+use Rattle.view_laws.proofs.Answers.{not-granted, demand-granted, then-granted}
+use Rattle.view_laws.proofs.Own.{own-entries}
 use Rattle.funds.specs.Funds.{rowsOf, inFront}
 use Rattle.funds.specs.Outcome.{relisted, checkAnswer, given, checkOf}
 use Rattle.funds.proofs.RowLaws.{rows-long}

@@ -11,7 +11,7 @@ use lib.Dec.{eqb}
 use lib.ListN.{length, take, drop, getD, length-append, length-drop, take-append-drop}
 use lib.Seq.{take-append-seam, drop-at}
 use Rattle.text.proofs.DecimalLaws.{and-both, both-and}
-use Rattle.bridge.proofs.BridgeFields.{never}
+use Rattle.view_laws.proofs.BridgeFields.{never}
 use Rattle.funds.specs.Funds.{inFront, beginsWith}
 
 -- a list begins with another exactly if as many of its numbers are that other

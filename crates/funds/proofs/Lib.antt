@@ -4,3 +4,4 @@ pub mod AskLaws
 pub mod Asked
 pub mod CheckLaws
 pub mod Examples
+pub mod WalkLaws

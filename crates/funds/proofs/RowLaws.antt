@@ -13,15 +13,15 @@ use Rattle.text.specs.Rows.{joined}
 use Rattle.text.proofs.DecimalLaws.{value-render-lt}
 use Rattle.layout.specs.declared.Answer.{Answer}
 use Rattle.layout.specs.declared.Way.{Way}
-use Rattle.records.specs.Run.{columnsIn, checkedOf}
+use Rattle.check_record.specs.Record.{columnsIn, checkedOf}
 use Rattle.view.specs.View.{Entry, Batch, View, fileRecord, entryRecord, addendumRecord, batchRecord, batchRecords, batchControlRecord, fileControlRecord, fillerRecord, fillersAfter, bodyOf, recordsOf, sumOver, recordsIn, creditOf, viewOf}
 use Rattle.view.specs.Sized.{All, SizedBatch}
 use Rattle.view.specs.Keeps.{BatchesKeep}
-use Rattle.bridge.proofs.Amend.{recordsFor}
-use Rattle.bridge.proofs.Bridge.{accepted-view}
-use Rattle.bridge.proofs.BridgeSums.{entriesRecords}
-use Rattle.bridge.proofs.Formed.{batch-control-fields}
-use Rattle.bridge.proofs.Own.{own-records}
+use Rattle.view_laws.proofs.Amend.{recordsFor}
+use Rattle.view_laws.proofs.Bridge.{accepted-view}
+use Rattle.view_laws.proofs.BridgeSums.{entriesRecords}
+use Rattle.view_laws.proofs.Formed.{batch-control-fields}
+use Rattle.view_laws.proofs.Own.{own-records}
 use Rattle.funds.specs.Funds.{rowsFrom, rowsOf, controlCredit, rowsAlong}
 
 -- two numbers for each batch

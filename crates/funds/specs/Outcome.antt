@@ -6,7 +6,7 @@ use Rattle.layout.specs.declared.Fault.{Fault}
 use Rattle.layout.specs.declared.Answer.{Answer}
 use Rattle.layout.specs.declared.Checked.{Checked}
 use Rattle.layout.specs.declared.Way.{Way}
-use Rattle.records.specs.Run.{refused, checkedOf}
+use Rattle.check_record.specs.Record.{refused, checkedOf}
 use Rattle.view.specs.View.{View, viewOf}
 use Rattle.view.specs.Outcome.{Outcome, demand, andThen}
 use Rattle.layout.specs.Paper.{refusal}

@@ -2,6 +2,8 @@
 ghost use mathlib.Core.Path.{_≡_};
 ghost use Rattle.funds.specs.Funds.{runsOut};
 
+pub mod filling;
+
 // The first row over a limit: its record number and credits, 0 if none is; rows counts those up to and with it, or all whole rows.
 pub struct RunsOut {
     pub found: bool,

@@ -11,7 +11,7 @@ use lib.ListN.{length, getD, take, drop, length-take, length-drop, List·getD-eq
 use Rattle.text.specs.Rows.{columns}
 use Rattle.layout.specs.declared.Row.{Row}
 use Rattle.layout.specs.Fields.{noRow}
-use Rattle.layout.specs.Fits.{rowFits, kindFits}
+use Rattle.layout.specs.WorkFits.{rowFits, kindFits}
 
 -- every row of a table fits: computed once for each table
 abbrev pub allFit : List Row → Bool

@@ -1,4 +1,4 @@
 pub mod Fields
-pub mod Fits
+pub mod WorkFits
 pub mod Paper
 pub mod Ways

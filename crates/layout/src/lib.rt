@@ -3,7 +3,7 @@ ghost use mathlib.Core.Path.{_≡_};
 ghost use mathlib.Core.Bool.{true};
 ghost use lib.ListN.{length, getD};
 ghost use Rattle.layout.specs.Fields.{fileHeader, batchHeader, entry, addendum, batchControl, fileControl, filler, past, other, rowsOf, noRow, firstField};
-ghost use Rattle.layout.specs.Fits.{rowFits};
+ghost use Rattle.layout.specs.WorkFits.{rowFits};
 ghost use Rattle.layout.specs.Paper.{numberOf, refusal};
 ghost use Rattle.layout.specs.Ways.{recordBytes};
 

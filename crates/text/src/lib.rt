@@ -18,7 +18,7 @@ pub fn wide(b: u8) -> u64
 pub fn is_digit(b: u8) -> bool
     ensures { λ r. ⌜ r ≡ isDigit b ⌝ }
 {
-    (48 <= b) & (b <= 57)
+    (b'0' <= b) & (b <= b'9')
 }
 
 // Whether all bytes are digits.
@@ -38,7 +38,7 @@ pub fn digits(s: &[u8]) -> bool
 pub fn digit(b: u8) -> u64
     ensures { λ r. ⌜ r ≡ digitOf b ⌝ }
 {
-    if is_digit(b) { wide(b - 48) } else { 0 }
+    if is_digit(b) { wide(b - b'0') } else { 0 }
 }
 
 // The number that the digits write; a byte that is no digit counts 0.
@@ -63,7 +63,7 @@ pub fn put_number(s: &mut [u8], n: u64)
     let mut i = s.len();
     while 0 < i {
         i -= 1;
-        s[i] = 48 + (left % 10) as u8;
+        s[i] = b'0' + (left % 10) as u8;
         left /= 10;
     }
 }

@@ -10,9 +10,9 @@ use Rattle.text.specs.Decimal.{every, valueFrom, render}
 use Rattle.text.specs.Same.{sameBytes}
 use Rattle.text.specs.Rows.{rows, joined}
 use Rattle.layout.specs.declared.Answer.{Answer}
-use Rattle.groups.specs.Groups.{weighed, checkDigit}
-use Rattle.own.specs.Rules.{unbroken}
-use Rattle.records.specs.Run.{checkedOf, runFrom, fieldsFrom}
+use Rattle.check_digit.specs.CheckDigit.{weighed, checkDigit}
+use Rattle.check_alone.specs.Own.{unbroken}
+use Rattle.check_record.specs.Record.{checkedOf, runFrom, fieldsFrom}
 use Rattle.view.specs.View.{Entry, Batch, View, sumOver, entriesOf, bodyOf, recordsOf, fileOf, viewOf}
 use Rattle.view.specs.Table.{withEntries, withAddenda, everyRow, shaped, tableBytes, viewOfTable}
 use Rattle.view.specs.Outcome.{spotFrom, amendEntry, amendBatch, within, alteredTable, alterOf}

@@ -11,9 +11,9 @@ use Rattle.text.specs.Rows.{rows, joined}
 use Rattle.layout.specs.declared.Answer.{Answer}
 use Rattle.layout.specs.declared.Way.{Way}
 use Rattle.layout.specs.Paper.{Paper, paperOf}
-use Rattle.groups.specs.Groups.{weighed}
-use Rattle.own.specs.Rules.{unbroken}
-use Rattle.records.specs.Run.{checkedOf, runFrom, fieldsFrom}
+use Rattle.check_digit.specs.CheckDigit.{weighed}
+use Rattle.check_alone.specs.Own.{unbroken}
+use Rattle.check_record.specs.Record.{checkedOf, runFrom, fieldsFrom}
 use Rattle.view.specs.View.{Entry, View, sumOver, fileOf}
 use Rattle.view.specs.Outcome.{spotFrom, amendEntry, amendBatch, alterOf}
 use Rattle.view.proofs.Across.{name, item, batchOf, ppd, ccd, fileWith}

@@ -8,11 +8,11 @@ use lib.ListN.{length}
 use Rattle.text.specs.Decimal.{pick}
 use Rattle.layout.specs.declared.Row.{Row}
 use Rattle.layout.specs.Fields.{fileHeader, batchHeader, entry, addendum}
-use Rattle.kinds.specs.declared.Mark.{Mark}
-use Rattle.near.specs.declared.Sums.{Sums}
-use Rattle.near.specs.Near.{entryTrace, batchNumber}
-use Rattle.rules.specs.Field.{fieldOf, totalLimit}
-use Rattle.records.specs.Run.{mostRecords}
+use Rattle.check_alone.specs.declared.Mark.{Mark}
+use Rattle.check_across.specs.declared.Sums.{Sums}
+use Rattle.check_across.specs.Across.{entryTrace, batchNumber}
+use Rattle.check_field.specs.Field.{fieldOf, totalLimit}
+use Rattle.check_record.specs.Record.{mostRecords}
 use Rattle.view.specs.View.{Entry, Batch, View, fileRecord, batchRecord, entryRecord, addendumRecord, sumOver, codeIn, amountOf, debitOf, creditOf, recordsIn, entriesOf, recordsOf}
 use Rattle.view.specs.Table.{addendaDue}
 use Rattle.view.specs.Sized.{All}

@@ -16,10 +16,10 @@ use Rattle.layout.specs.declared.Way.{Way}
 use Rattle.layout.specs.Fields.{noRow, entry, addendum}
 use Rattle.layout.specs.Paper.{refusal}
 use Rattle.layout.specs.Ways.{recordBytes}
-use Rattle.codes.specs.declared.Code.{Code}
-use Rattle.codes.specs.Codes.{codeOf, carries}
-use Rattle.rules.specs.Field.{totalLimit}
-use Rattle.records.specs.Run.{checkedOf}
+use Rattle.check_codes.specs.declared.Code.{Code}
+use Rattle.check_codes.specs.Codes.{codeOf, carries}
+use Rattle.check_field.specs.Field.{totalLimit}
+use Rattle.check_record.specs.Record.{checkedOf}
 use Rattle.view.specs.View.{Entry, Batch, View, written, entryRecord, entriesOf, sumOver, recordsIn, debitOf, creditOf, amountOf, codeIn, batchRecords, bodyOf, fileOf, viewOf}
 use Rattle.view.specs.Table.{tableBytes, shaped, formed, tableOf, countWide, entryWide, entryPart}
 

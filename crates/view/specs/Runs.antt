@@ -7,7 +7,7 @@ use lib.Dec.{leb}
 use Rattle.text.specs.Decimal.{pick}
 use Rattle.layout.specs.declared.Answer.{Answer}
 use Rattle.layout.specs.declared.Way.{Way}
-use Rattle.records.specs.Run.{checkedOf}
+use Rattle.check_record.specs.Record.{checkedOf}
 use Rattle.view.specs.View.{viewOf}
 use Rattle.view.specs.Table.{viewOfTable, formed, tableOf}
 use Rattle.view.specs.Outcome.{exists, alteredTable, alterOf}

@@ -7,7 +7,7 @@ use lib.ListN.{length, take, drop}
 use Rattle.text.specs.Decimal.{pick, digits, value, render}
 use Rattle.text.specs.Rows.{columns, rows, section}
 use Rattle.layout.specs.declared.Way.{Way}
-use Rattle.order.specs.Order.{takesAddendum}
+use Rattle.check_order.specs.Order.{takesAddendum}
 use Rattle.view.specs.View.{Entry, Batch, View, entryRecord, entriesOf, sumOver, fileOf, viewOf}
 
 -- "counts of six digits"; "85 bytes"; "95 bytes each, columns 2-75 and 80-94 of record 5, then the batch's number of entries in

@@ -11,10 +11,10 @@ use Rattle.layout.specs.declared.Row.{Row}
 use Rattle.layout.specs.declared.Way.{Way}
 use Rattle.layout.specs.Fields.{recordColumns, noRow, part, fileHeader, batchHeader, entry, addendum, batchControl, fileControl}
 use Rattle.layout.specs.Ways.{endOf}
-use Rattle.codes.specs.Codes.{codeOf, codeRow, debitPart, creditPart}
-use Rattle.near.specs.Near.{entryCode, entryBank, entryAmount}
-use Rattle.rules.specs.Field.{blocks, hashOf}
-use Rattle.records.specs.Run.{columnsIn}
+use Rattle.check_codes.specs.Codes.{codeOf, codeRow, debitPart, creditPart}
+use Rattle.check_across.specs.Across.{entryCode, entryBank, entryAmount}
+use Rattle.check_field.specs.Field.{blocks, hashOf}
+use Rattle.check_record.specs.Record.{columnsIn}
 
 -- row: columns 2-94 of the record 6. addenda: columns 4-83 of each record 7 behind it (at most one in PPD and CCD)
 pub record Entry : Type 0 where

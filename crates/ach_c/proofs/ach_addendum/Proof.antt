@@ -1,4 +1,4 @@
-use Rattle.told.proofs.Laws.{granted-code, granted-gives, refused-lent}
+use Rattle.ach.proofs.ToldLaws.{granted-code, granted-gives, refused-lent}
 use mathlib.Core.Path.{refl, _∙_}
 use borrow.Author.Needs.{needs}
 use Rattle.ach_c.proofs.ach_addendum.Statement.{statement}
@@ -6,8 +6,8 @@ use Rattle.ach_c.proofs.ach_addendum.Tie as tie
 use Rattle.ach_c.proofs.ach_addendum.Reads as reads
 use Rattle.ach_c.proofs.ach_addendum.Lts as lts
 use Rattle.ach.proofs.asked_span.Reads as asked-span-reads
-use Rattle.told.proofs.code_of.Reads as code-of-reads
-use Rattle.told.proofs.way_of.Reads as way-of-reads
+use Rattle.ach.proofs.told.code_of.Reads as code-of-reads
+use Rattle.ach.proofs.told.way_of.Reads as way-of-reads
 
 -- src/lib.rt:126:32
 way-of-requires : tie.Need-way-of-requires

@@ -1,4 +1,4 @@
-use Rattle.told.specs.Boundary.{codeOfAnswer, left}
+use Rattle.ach.specs.Told.{codeOfAnswer, left}
 use Rattle.layout.specs.declared.Altered.{Altered}
 use mathlib.Core.Path.{_∙_, ap}
 use borrow.Author.Needs.{needs}
@@ -7,8 +7,8 @@ use Rattle.ach_c.proofs.ach_alter.Tie as tie
 use Rattle.ach_c.proofs.ach_alter.Reads as reads
 use Rattle.ach_c.proofs.ach_alter.Lts as lts
 use Rattle.ach.proofs.alter.Reads as alter-reads
-use Rattle.told.proofs.tell_altered.Reads as tell-altered-reads
-use Rattle.told.proofs.way_of.Reads as way-of-reads
+use Rattle.ach.proofs.told.tell_altered.Reads as tell-altered-reads
+use Rattle.ach.proofs.told.way_of.Reads as way-of-reads
 
 -- src/lib.rt:93:30
 way-of-requires : tie.Need-way-of-requires

@@ -1,4 +1,4 @@
-use Rattle.told.specs.Boundary.{codeOfAnswer, numbersOf, numbersLeft}
+use Rattle.ach.specs.Told.{codeOfAnswer, numbersOf, numbersLeft}
 use Rattle.layout.specs.declared.Checked.{Checked}
 use mathlib.Core.Path.{_∙_, ap}
 use borrow.Author.Needs.{needs}
@@ -7,8 +7,8 @@ use Rattle.ach_c.proofs.ach_check.Tie as tie
 use Rattle.ach_c.proofs.ach_check.Reads as reads
 use Rattle.ach_c.proofs.ach_check.Lts as lts
 use Rattle.ach.proofs.check.Reads as check-reads
-use Rattle.told.proofs.tell_checked.Reads as tell-checked-reads
-use Rattle.told.proofs.way_of.Reads as way-of-reads
+use Rattle.ach.proofs.told.tell_checked.Reads as tell-checked-reads
+use Rattle.ach.proofs.told.way_of.Reads as way-of-reads
 
 -- src/lib.rt:26:30
 way-of-requires : tie.Need-way-of-requires

@@ -1,4 +1,4 @@
-use Rattle.told.specs.Boundary.{codeOfAnswer, left}
+use Rattle.ach.specs.Told.{codeOfAnswer, left}
 use Rattle.layout.specs.declared.Made.{Made}
 use mathlib.Core.Path.{_∙_, ap}
 use borrow.Author.Needs.{needs}
@@ -7,7 +7,7 @@ use Rattle.ach_c.proofs.ach_export.Tie as tie
 use Rattle.ach_c.proofs.ach_export.Reads as reads
 use Rattle.ach_c.proofs.ach_export.Lts as lts
 use Rattle.ach.proofs.export.Reads as export-reads
-use Rattle.told.proofs.tell_made.Reads as tell-made-reads
+use Rattle.ach.proofs.told.tell_made.Reads as tell-made-reads
 
 -- src/lib.rt:64:9
 export-requires : tie.Need-export-requires

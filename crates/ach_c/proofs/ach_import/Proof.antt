@@ -1,4 +1,4 @@
-use Rattle.told.specs.Boundary.{codeOfAnswer, left}
+use Rattle.ach.specs.Told.{codeOfAnswer, left}
 use Rattle.layout.specs.declared.Made.{Made}
 use mathlib.Core.Path.{_∙_, ap}
 use borrow.Author.Needs.{needs}
@@ -7,7 +7,7 @@ use Rattle.ach_c.proofs.ach_import.Tie as tie
 use Rattle.ach_c.proofs.ach_import.Reads as reads
 use Rattle.ach_c.proofs.ach_import.Lts as lts
 use Rattle.ach.proofs.import.Reads as import-reads
-use Rattle.told.proofs.tell_made.Reads as tell-made-reads
+use Rattle.ach.proofs.told.tell_made.Reads as tell-made-reads
 
 -- src/lib.rt:56:9
 import-requires : tie.Need-import-requires

@@ -1,5 +1,5 @@
-use Rattle.mending.specs.declared.Mended.{Mended}
-use Rattle.told.proofs.Laws.{granted-code, granted-gives, refused-lent}
+use Rattle.mend.specs.declared.Mended.{Mended}
+use Rattle.ach.proofs.ToldLaws.{granted-code, granted-gives, refused-lent}
 use mathlib.Core.Path.{refl, _∙_, ap}
 use borrow.Author.Needs.{needs}
 use Rattle.ach_c.proofs.ach_mend.Statement.{statement}
@@ -7,8 +7,8 @@ use Rattle.ach_c.proofs.ach_mend.Tie as tie
 use Rattle.ach_c.proofs.ach_mend.Reads as reads
 use Rattle.ach_c.proofs.ach_mend.Lts as lts
 use Rattle.ach.proofs.mend.Reads as mend-reads
-use Rattle.told.proofs.code_of.Reads as code-of-reads
-use Rattle.told.proofs.way_of.Reads as way-of-reads
+use Rattle.ach.proofs.told.code_of.Reads as code-of-reads
+use Rattle.ach.proofs.told.way_of.Reads as way-of-reads
 
 -- src/lib.rt:95:26
 way-of-requires : tie.Need-way-of-requires

@@ -1,4 +1,4 @@
-use Rattle.told.specs.Boundary.{codeOfAnswer, left}
+use Rattle.ach.specs.Told.{codeOfAnswer, left}
 use Rattle.layout.specs.declared.Made.{Made}
 use mathlib.Core.Path.{_∙_, ap}
 use borrow.Author.Needs.{needs}
@@ -7,8 +7,8 @@ use Rattle.ach_c.proofs.ach_read.Tie as tie
 use Rattle.ach_c.proofs.ach_read.Reads as reads
 use Rattle.ach_c.proofs.ach_read.Lts as lts
 use Rattle.ach.proofs.read.Reads as read-reads
-use Rattle.told.proofs.tell_made.Reads as tell-made-reads
-use Rattle.told.proofs.way_of.Reads as way-of-reads
+use Rattle.ach.proofs.told.tell_made.Reads as tell-made-reads
+use Rattle.ach.proofs.told.way_of.Reads as way-of-reads
 
 -- src/lib.rt:34:26
 way-of-requires : tie.Need-way-of-requires

@@ -1,4 +1,4 @@
-use Rattle.told.specs.Boundary.{codeOfAnswer, left}
+use Rattle.ach.specs.Told.{codeOfAnswer, left}
 use Rattle.layout.specs.declared.Made.{Made}
 use mathlib.Core.Path.{_∙_, ap}
 use borrow.Author.Needs.{needs}
@@ -7,8 +7,8 @@ use Rattle.ach_c.proofs.ach_take_out.Tie as tie
 use Rattle.ach_c.proofs.ach_take_out.Reads as reads
 use Rattle.ach_c.proofs.ach_take_out.Lts as lts
 use Rattle.ach.proofs.take_out.Reads as take-out-reads
-use Rattle.told.proofs.tell_made.Reads as tell-made-reads
-use Rattle.told.proofs.way_of.Reads as way-of-reads
+use Rattle.ach.proofs.told.tell_made.Reads as tell-made-reads
+use Rattle.ach.proofs.told.way_of.Reads as way-of-reads
 
 -- src/lib.rt:78:30
 way-of-requires : tie.Need-way-of-requires

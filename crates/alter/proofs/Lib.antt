@@ -1,0 +1,4 @@
+pub mod Listing
+pub mod ExchangeLaws
+pub mod Signed
+pub mod AmountLaws

@@ -1,0 +1,4 @@
+pub mod Laws
+pub mod QuickLaws
+pub mod Ways
+pub mod OutcomeLaws

@@ -1,0 +1,5 @@
+pub mod Judging
+pub mod TableLaws
+pub mod WalkLaws
+pub mod PutLaws
+pub mod Along

@@ -1,0 +1,2 @@
+pub mod WorkListing
+pub mod WorkFollowing

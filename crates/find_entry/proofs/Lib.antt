@@ -1,0 +1,5 @@
+pub mod Addenda
+pub mod Parts
+pub mod Walk
+pub mod Places
+pub mod Accepted

@@ -1,0 +1,3 @@
+pub mod WorkAsked
+pub mod WorkFind
+pub mod WorkThere

@@ -1,2 +1,0 @@
-pub mod Find
-pub mod There

@@ -1,3 +1,0 @@
-pub mod TableLaws
-pub mod WalkLaws
-pub mod PutLaws

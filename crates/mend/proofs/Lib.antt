@@ -1,0 +1,13 @@
+pub mod Examples
+pub mod Stays
+pub mod Again
+pub mod Besides
+pub mod Numbers
+pub mod Running
+pub mod Together
+pub mod Granted
+pub mod Says
+pub mod Changes
+pub mod Places
+pub mod Complete
+pub mod Fillers

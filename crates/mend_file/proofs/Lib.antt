@@ -1,0 +1,12 @@
+pub mod FieldLaws
+pub mod FillerLaws
+pub mod ListLaws
+pub mod MendLaws
+pub mod WholeLaws
+pub mod RefillLaws
+pub mod JudgeLaws
+pub mod StepLaws
+pub mod TurnLaws
+pub mod PutLaws
+pub mod SizeLaws
+pub mod WalkLaws

@@ -1,0 +1,3 @@
+pub mod WorkChanging
+pub mod WorkJudging
+pub mod WorkRenewing

@@ -1,1 +1,0 @@
-// What mending keeps and leaves: theorems, with no code of its own.

@@ -1,2 +1,0 @@
-pub mod Passes
-pub mod Puts

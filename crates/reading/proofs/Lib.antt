@@ -1,2 +1,0 @@
-pub mod Sections
-pub mod Outcomes

@@ -1,0 +1,2 @@
+pub mod WorkCounting
+pub mod WorkReady

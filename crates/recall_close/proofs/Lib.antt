@@ -1,0 +1,4 @@
+pub mod CloseLaws
+pub mod BitLaws
+pub mod PutLaws
+pub mod MarkLaws

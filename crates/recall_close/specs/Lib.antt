@@ -1,0 +1,3 @@
+pub mod WorkBits
+pub mod WorkMoving
+pub mod WorkReady

@@ -1,0 +1,2 @@
+pub mod RecallView
+pub mod Gone

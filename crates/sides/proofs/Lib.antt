@@ -1,2 +1,0 @@
-pub mod ExchangeLaws
-pub mod Signed

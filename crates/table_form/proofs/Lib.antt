@@ -1,0 +1,3 @@
+pub mod ShapeLaws
+pub mod FormLaws
+pub mod WalkLaws

@@ -1,0 +1,3 @@
+pub mod WorkSections
+pub mod Forms
+pub mod WorkWalking

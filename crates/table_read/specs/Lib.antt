@@ -1,0 +1,2 @@
+pub mod WorkPasses
+pub mod WorkPuts

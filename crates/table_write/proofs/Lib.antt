@@ -1,0 +1,2 @@
+pub mod WriteLaws
+pub mod PassLaws

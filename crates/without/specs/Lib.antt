@@ -1,2 +1,0 @@
-pub mod Without
-pub mod Gone
