@@ -1,4 +1,6 @@
 // The public functions: every one takes any bytes, does its own checking, and grants or names the first refusal.
+#![tactic(auto)]
+
 ghost use Rattle.ach.specs.Permits.{Checks, Finds, Reads, Writes, Alters, TakesOut, Mends, Imports, Exports, HandsOut, Explains, Spans};
 
 use funds::filling;

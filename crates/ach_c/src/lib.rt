@@ -1,4 +1,6 @@
 // The boundary: thin, total functions on slices and numbers for callers in C, Rust and other languages (include/ach.h).
+#![tactic(auto)]
+
 ghost use Rattle.funds.specs.Funds.{runs_out};
 ghost use Rattle.funds.specs.Outcome.{check_of};
 ghost use Rattle.alter.specs.Alter.{alter_listed_of};

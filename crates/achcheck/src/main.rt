@@ -1,4 +1,6 @@
 // Checks standard input, one line. More than 64,860 bytes are refused unchecked.
+#![tactic(auto)]
+
 use layout::Way;
 use libc::STDIN_FILENO;
 

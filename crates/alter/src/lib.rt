@@ -1,4 +1,6 @@
 // One amount altered in place, and the file's list with it.
+#![tactic(auto)]
+
 ghost use Rattle.std.specs.Prelude.{◌≡◌, true};
 ghost use Rattle.layout.specs.declared.Answer.{Answer};
 ghost use Rattle.check_record.specs.Record.{checked_of};

@@ -15,7 +15,7 @@ use layout::{Altered, Answer, Fault, Way};
 const LIMIT: u64 = 999_999_999_999;
 
 // A side's totals in a record 8 and in a record 9: the field's number, and its first byte from 0.
-#[derive(Drop)]
+#[derive(Clone, Copy)]
 pub struct Side {
     pub batchfield: u64,
     pub batchat: usize,
@@ -24,7 +24,7 @@ pub struct Side {
 }
 
 // What an entry's record says of its amount.
-#[derive(Drop)]
+#[derive(Clone, Copy)]
 pub struct Said {
     pub code: Code,
     pub amount: u64,

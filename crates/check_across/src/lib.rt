@@ -1,4 +1,6 @@
 // What records say by their fields' numbers, and the rules that look at another field or an earlier record.
+#![tactic(auto)]
+
 ghost use Rattle.std.specs.Prelude.{◌≤◌, ◌≡◌, true, length};
 ghost use Rattle.layout.specs.WorkFits.{near_fits};
 ghost use Rattle.check_digit.specs.CheckDigit.{group_sums};
@@ -10,7 +12,7 @@ use check_codes::Code;
 use layout::{Fault, Near};
 
 // The numbers that an entry says, read once for its rules and for the sums.
-#[derive(Drop)]
+#[derive(Clone, Copy)]
 pub struct Numbers {
     pub code: u64,
     pub bank: u64,
@@ -19,7 +21,7 @@ pub struct Numbers {
 }
 
 // What is counted and summed over the records so far. Those of the batch start anew at each record 5.
-#[derive(Drop)]
+#[derive(Clone, Copy)]
 pub struct Sums {
     pub records: u64,
     pub batches: u64,

@@ -1,9 +1,11 @@
 // The transaction codes: what each is, where it may stand and what it may carry.
+#![tactic(auto)]
+
 ghost use Rattle.std.specs.Prelude.{◌<◌, ◌≡◌};
 ghost use Rattle.check_codes.specs.Codes.{code_of, known, allowed, use_carries, carries, use_remits, remits, debit_part, credit_part, code_row};
 
 // What a transaction code says.
-#[derive(Drop)]
+#[derive(Clone, Copy)]
 pub enum Code {
     Unknown,
     Credit(Use),
@@ -11,7 +13,7 @@ pub enum Code {
 }
 
 // What an entry's code is for: live money, or a prenote or a remittance of nothing, which carry none.
-#[derive(Drop)]
+#[derive(Clone, Copy)]
 pub enum Use {
     Live,
     Prenote,

@@ -1,4 +1,6 @@
 // The check digit, three digits at a time.
+#![tactic(auto)]
+
 ghost use Rattle.std.specs.Prelude.{◌+◌, ◌*◌, ◌≤◌, ◌<◌, ◌≡◌};
 ghost use Rattle.check_digit.specs.CheckDigit.{group_sum, group_sums, balanced};
 

@@ -1,4 +1,6 @@
 // The check of a file: one pass over its records.
+#![tactic(auto)]
+
 ghost use Rattle.std.specs.Prelude.{◌≡◌};
 ghost use Rattle.check_record.specs.Record.{checked_of};
 

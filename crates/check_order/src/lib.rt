@@ -1,4 +1,6 @@
 // The order of record types.
+#![tactic(auto)]
+
 ghost use Rattle.std.specs.Prelude.{◌≡◌, length, get_or, eqb};
 ghost use Rattle.text.specs.Decimal.{pick};
 ghost use Rattle.check_order.specs.Order.{filled, line_at, takes_addendum, next_place, complete};
@@ -6,7 +8,7 @@ ghost use Rattle.check_order.specs.Order.{filled, line_at, takes_addendum, next_
 use layout::Line;
 
 // Where in the order of record types the next record stands.
-#[derive(Drop)]
+#[derive(Clone, Copy)]
 pub enum Place {
     Start,
     FileOpen,
@@ -61,7 +63,7 @@ pub fn line_at(place: Place, n: u64, b: u8) -> Line
 }
 
 // Where the record after this one stands.
-pub fn next_place_lem(place: Place, line: Line, rec: &[u8]) -> Place
+pub fn next_place(place: Place, line: Line, rec: &[u8]) -> Place
     requires { length rec.now ≡ 94 }
     ensures { result ≡ next_place place line rec.now }
 {

@@ -1,5 +1,7 @@
 // Entries and addenda are nearly all of a large file: their fields tested in a straight line, with no table and no branch between them.
 // The walk along the table names the refusal where one of these says no.
+#![tactic(auto)]
+
 ghost use Rattle.std.specs.Prelude.{◌≡◌, ◌&&◌, length};
 ghost use Rattle.layout.specs.Fields.{entry, part};
 ghost use Rattle.check_digit.specs.CheckDigit.{group_sums};

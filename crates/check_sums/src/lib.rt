@@ -1,4 +1,6 @@
 // What each record adds to the counts, the hash, the totals and the rows by code.
+#![tactic(auto)]
+
 ghost use Rattle.std.specs.Prelude.{ℕ, ◌+◌, ◌*◌, ◌≤◌, ◌<◌, ◌≡◌, List, length, get_or};
 ghost use Rattle.check_codes.specs.Codes.{code_of, debit_part, credit_part};
 ghost use Rattle.check_across.specs.Across.{said_of};
@@ -11,7 +13,7 @@ use check_order::Place;
 use layout::Line;
 
 // What is known of the records so far; header is the record 5 of the batch.
-#[derive(Drop)]
+#[derive(Clone, Copy)]
 pub struct State {
     pub place: Place,
     pub sums: Sums,

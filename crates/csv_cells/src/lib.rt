@@ -1,11 +1,13 @@
 // Fields and lines in RFC 4180's grammar.
+#![tactic(auto)]
+
 ghost use Rattle.std.specs.Prelude.{◌+◌, ◌≤◌, ◌<◌, ◌≡◌, true, false, eqb, length, get_or, drop};
 ghost use Rattle.csv_cells.specs.declared.Scan.{Scan};
 ghost use Rattle.csv_cells.specs.Cells.{is_text_data, is_quoted_data, go_on, is_stuck, may_end, cell_of, inner_of, undoubled, break_at, size_by, six_fields, line_size, filled_to};
 
 // How far the field at hand has got: nothing of it yet, inside a field without quotes, between quotes, behind a quote that closes or
 // is the first of two, or it cannot go on.
-#[derive(Drop)]
+#[derive(Clone, Copy)]
 pub enum Scan {
     Fresh,
     Plain,
@@ -15,7 +17,7 @@ pub enum Scan {
 }
 
 // The field at the front of some bytes: how many they are, and whether it may end there.
-#[derive(Drop)]
+#[derive(Clone, Copy)]
 pub struct Cell {
     pub size: usize,
     pub whole: bool,

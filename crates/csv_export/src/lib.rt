@@ -1,5 +1,7 @@
 // Exporting: the entries of a pay table as comma lines. The table is judged and the room is asked for before the first byte is
 // written.
+#![tactic(auto)]
+
 ghost use Rattle.std.specs.Prelude.{◌≡◌};
 ghost use Rattle.csv_export.specs.Export.{export_of};
 

@@ -16,7 +16,7 @@ use table_form::forms;
 use table_form::walking::Cursor;
 
 // The next entry's row, and where the line behind its own begins and which number that has.
-#[derive(Drop)]
+#[derive(Clone, Copy)]
 pub struct Next {
     pub row: [u8; 93],
     pub at: usize,

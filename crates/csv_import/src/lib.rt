@@ -1,5 +1,7 @@
 // Importing: the lines of a client's list become a pay table. The records of the file that the table forms are checked before the first
 // byte is written, so that a refusal leaves the lent table as it is.
+#![tactic(auto)]
+
 ghost use Rattle.std.specs.Prelude.{◌≤◌, ◌≡◌, ◌&&◌, eqb, leb, length};
 ghost use Rattle.layout.specs.declared.Answer.{Answer};
 ghost use Rattle.csv_cells.specs.Cells.{lines_in};
@@ -13,7 +15,7 @@ mod judge;
 pub mod listing;
 
 // Whether the rows have their lengths, and the lines are few enough to be counted in six digits.
-fn rows_fit_lem(filerow: &[u8], batchrow: &[u8], count: u64) -> bool
+fn rows_fit(filerow: &[u8], batchrow: &[u8], count: u64) -> bool
     ensures { result ≡ (eqb (length filerow.now) 85 && eqb (length batchrow.now) 95 && leb count 999999) }
 {
     (filerow.len() == 85) & (batchrow.len() == 95) & (count <= 999_999)

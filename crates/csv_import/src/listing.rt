@@ -12,7 +12,7 @@ use layout::Answer;
 use table_read::putting;
 
 // What the lines say: the first fault among them, and where there is none how many they are.
-#[derive(Drop)]
+#[derive(Clone, Copy)]
 pub struct Listing {
     pub answer: Answer,
     pub count: u64,

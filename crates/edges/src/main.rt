@@ -1,4 +1,6 @@
 // Runs the vectors: checks each file that the arguments name, a line each.
+#![tactic(auto)]
+
 fn check_file(index: usize) {
     let mut path = io::buffer();
     let length = os::arg(index, &mut path);

@@ -8,7 +8,7 @@ ghost use Rattle.find_entry.specs.WorkThere.{There, EntryAt, Found};
 use layout::Way;
 
 // Indices, from 0, of an entry's record, of its batch's control and of the file's control.
-#[derive(Drop)]
+#[derive(Clone, Copy)]
 pub struct Places {
     pub entry: usize,
     pub control: usize,

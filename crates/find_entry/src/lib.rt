@@ -1,4 +1,6 @@
 // An entry's addendum, as a part of the file itself.
+#![tactic(auto)]
+
 ghost use Rattle.std.specs.Prelude.{◌≡◌, take, drop};
 ghost use Rattle.view.specs.Outcome.{addendum_answer, addendum_of};
 ghost use Rattle.find_entry.specs.WorkAsked.{asked_of};
@@ -8,7 +10,7 @@ use layout::{Answer, Checked, EntryNo, Fault, Way};
 pub mod find;
 
 // The answer to a question for an addendum, and the part of the file that holds it: where it starts, and how long it is.
-#[derive(Drop)]
+#[derive(Clone, Copy)]
 pub struct AskedSpan {
     pub answer: Answer,
     pub from: usize,

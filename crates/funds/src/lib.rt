@@ -1,11 +1,13 @@
 // Where the money runs out: what the list of a file is, one row a batch, and the question that is put to a list.
+#![tactic(auto)]
+
 ghost use Rattle.std.specs.Prelude.{◌≡◌};
 ghost use Rattle.funds.specs.Funds.{runs_out};
 
 pub mod filling;
 
 // The first row over a limit: its record number and credits, 0 if none is; rows counts those up to and with it, or all whole rows.
-#[derive(Drop)]
+#[derive(Clone, Copy)]
 pub struct RunsOut {
     pub found: bool,
     pub record: u64,

@@ -1,4 +1,6 @@
 // What the public answers are made of, and the field table of each record type.
+#![tactic(auto)]
+
 ghost use Rattle.std.specs.Prelude.{◌≡◌, true, length, get_or};
 ghost use Rattle.layout.specs.Fields.{file_header, batch_header, entry, addendum, batch_control, file_control, filler, past, other, rows_of, no_row, first_field};
 ghost use Rattle.layout.specs.WorkFits.{row_fits};
@@ -6,22 +8,22 @@ ghost use Rattle.layout.specs.Paper.{number_of, refusal};
 ghost use Rattle.layout.specs.Ways.{record_bytes};
 
 // How the records of a file stand: back to back, or each with CR LF behind it.
-#[derive(Drop)]
+#[derive(Clone, Copy)]
 pub enum Way {
     Plain,
     Lined,
 }
 
 // The number of a record, from 1, through the whole file.
-#[derive(Drop)]
+#[derive(Clone, Copy)]
 pub struct RecordNo(pub u64);
 
 // The number of an entry, from 1, through the whole file: never a record's.
-#[derive(Drop)]
+#[derive(Clone, Copy)]
 pub struct EntryNo(pub u64);
 
 // Why something is refused: one case for each number of the paper's table, in its order.
-#[derive(Drop)]
+#[derive(Clone, Copy)]
 pub enum Fault {
     Length,
     Ended,
@@ -57,21 +59,21 @@ pub enum Fault {
     Rows,
 }
 
-#[derive(Drop)]
+#[derive(Clone, Copy)]
 pub struct Refusal {
     pub fault: Fault,
     pub record: RecordNo,
     pub field: u64,
 }
 
-#[derive(Drop)]
+#[derive(Clone, Copy)]
 pub enum Answer {
     Granted,
     Refused(Refusal),
 }
 
 // What checking gives. On a refusal every number is 0.
-#[derive(Drop)]
+#[derive(Clone, Copy)]
 pub struct Checked {
     pub answer: Answer,
     pub batches: u64,
@@ -83,21 +85,21 @@ pub struct Checked {
 }
 
 // What reading and writing give: the result's length, 0 on a refusal.
-#[derive(Drop)]
+#[derive(Clone, Copy)]
 pub struct Made {
     pub answer: Answer,
     pub length: u64,
 }
 
 // What altering gives: the new amount less the old, 0 on a refusal.
-#[derive(Drop)]
+#[derive(Clone, Copy)]
 pub struct Altered {
     pub answer: Answer,
     pub difference: i64,
 }
 
 // What a record is taken for at its place in the file.
-#[derive(Drop)]
+#[derive(Clone, Copy)]
 pub enum Line {
     FileHeader,
     BatchHeader,
@@ -111,7 +113,7 @@ pub enum Line {
 }
 
 // A rule that looks at its own field alone.
-#[derive(Drop)]
+#[derive(Clone, Copy)]
 pub enum Own {
     Destination,
     Origin,
@@ -124,7 +126,7 @@ pub enum Own {
 }
 
 // A rule that looks at another field or at an earlier record.
-#[derive(Drop)]
+#[derive(Clone, Copy)]
 pub enum Near {
     Code,
     CheckDigit,
@@ -136,7 +138,7 @@ pub enum Near {
 }
 
 // A sum that a control record repeats.
-#[derive(Drop)]
+#[derive(Clone, Copy)]
 pub enum Sum {
     BatchRecords,
     BatchHash,
@@ -151,7 +153,7 @@ pub enum Sum {
 }
 
 // What a field has to be.
-#[derive(Drop)]
+#[derive(Clone, Copy)]
 pub enum Kind {
     Type,
     Misplaced,
@@ -172,7 +174,7 @@ pub enum Kind {
 }
 
 // One row of a field table: first column, last column, kind.
-#[derive(Drop)]
+#[derive(Clone, Copy)]
 pub struct Row {
     pub first: u8,
     pub last: u8,
@@ -654,7 +656,7 @@ pub fn rows_in(line: Line) -> usize
 }
 
 // The number of the first row's field.
-pub fn first_field_lem(line: Line) -> u64
+pub fn first_field(line: Line) -> u64
     ensures { result ≡ first_field line }
 {
     match line {

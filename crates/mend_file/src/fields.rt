@@ -13,7 +13,7 @@ use layout::{Line, Row};
 use table_read::putting;
 
 // Where a field begins and ends in its record, from 0, the end not included.
-#[derive(Drop)]
+#[derive(Clone, Copy)]
 struct Span {
     from: usize,
     end: usize,

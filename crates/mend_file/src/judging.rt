@@ -46,7 +46,7 @@ pub fn behind(way: Way, file: &[u8], before: usize) -> Answer
 }
 
 // What judging the mended file gives: its answer, and how many records stand before the 9 if it is granted.
-#[derive(Drop)]
+#[derive(Clone, Copy)]
 pub struct Judgement {
     pub answer: Answer,
     pub before: usize,

@@ -1,4 +1,6 @@
 // The changes of a mended file: measured before a byte is put, and put behind the mended file.
+#![tactic(auto)]
+
 mod fields;
 pub mod judging;
 pub mod refilling;
@@ -23,21 +25,21 @@ use mend::Mended;
 use table_form::forms;
 
 // Rows one behind the other: how many, and how many bytes they take.
-#[derive(Drop)]
+#[derive(Clone, Copy)]
 pub struct Listed {
     pub rows: usize,
     pub bytes: usize,
 }
 
 // The rows of the records 8 before the 9, and what the records before it sum to.
-#[derive(Drop)]
+#[derive(Clone, Copy)]
 struct Walk {
     listed: Listed,
     sums: Sums,
 }
 
 // What the changes come to: the rows of the records 8, those of the 9, and the bytes of the whole.
-#[derive(Drop)]
+#[derive(Clone, Copy)]
 pub struct Changes {
     pub batch: usize,
     pub file: usize,
@@ -46,7 +48,7 @@ pub struct Changes {
 
 // What is known before a byte is put: the answer, and for a grant how many records stand before the 9, how long the mended file is, and what
 // the changes come to.
-#[derive(Drop)]
+#[derive(Clone, Copy)]
 struct Plan {
     answer: Answer,
     before: usize,

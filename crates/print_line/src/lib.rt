@@ -1,4 +1,6 @@
 // The check program's line: `OK batches entries addenda debit credit`, or `NO number record field`.
+#![tactic(auto)]
+
 use layout::{Answer, Checked};
 use libc::STDOUT_FILENO;
 

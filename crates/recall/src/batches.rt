@@ -8,7 +8,7 @@ use layout::Way;
 use recall_close::bits;
 
 // What is known of the records so far: how many entries came, whether none of the last batch's stays, and how many batches stay.
-#[derive(Drop)]
+#[derive(Clone, Copy)]
 pub struct Kept {
     pub entries: usize,
     pub empty: bool,

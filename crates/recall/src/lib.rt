@@ -1,5 +1,7 @@
 // Recalled payments taken out of a file in place: the entries to go are flagged, the records that stay close up from the front, and the
 // control records and the filler are formed anew from what stays; then the list of the new file is put.
+#![tactic(auto)]
+
 ghost use Rattle.std.specs.Prelude.{ℕ, ◌+◌, ◌*◌, ◌<◌, ◌≡◌, length};
 ghost use Rattle.layout.specs.declared.Answer.{Answer};
 ghost use Rattle.recall_view.specs.RecallView.{named, take_out_answer, take_out_of};

@@ -1,4 +1,6 @@
 // The file closed up: the records that stay from the front on, the file control, the filler, and blanks.
+#![tactic(auto)]
+
 ghost use Rattle.std.specs.Prelude.{◌+◌, ◌-◌, ◌*◌, ◌≤◌, ◌≡◌, ◌++◌, map, length, take, drop, replicate};
 ghost use Rattle.text.specs.Rows.{joined};
 ghost use Rattle.layout.specs.Ways.{record_bytes};

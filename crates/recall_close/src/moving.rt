@@ -12,7 +12,7 @@ use table_form::forms;
 use table_write::passing;
 
 // What a record before the file control is.
-#[derive(Drop)]
+#[derive(Clone, Copy)]
 pub enum Sort {
     File,
     Batch,
@@ -23,7 +23,7 @@ pub enum Sort {
 
 // What is known of the records so far: the sums of the new file, the record 5 of the batch, how many entries of the old file came,
 // whether that record 5 still waits for an entry that stays, and whether the last entry stays.
-#[derive(Drop)]
+#[derive(Clone, Copy)]
 pub struct Walk {
     pub sums: Sums,
     pub header: [u8; 94],

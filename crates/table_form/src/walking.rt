@@ -13,7 +13,7 @@ use check_sums::State;
 
 // Where the walk along a table has got to: the batches to come and the next one's row, the entries left in this batch, the next
 // entry's row, the row of the entry before it, and the next addendum.
-#[derive(Drop)]
+#[derive(Clone, Copy)]
 pub struct Cursor {
     pub batches: usize,
     pub batch: usize,

@@ -1,4 +1,6 @@
 // Reading: a file's pay table, written into lent memory. The file is checked first, and nothing is written on a refusal.
+#![tactic(auto)]
+
 ghost use Rattle.std.specs.Prelude.{◌≡◌};
 ghost use Rattle.view.specs.Outcome.{read_of};
 

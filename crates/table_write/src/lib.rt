@@ -1,5 +1,7 @@
 // Writing: a pay table is formed into a file. The formed file's records are walked twice, first to check them and then to write
 // them, so that a refusal is known before the first byte is written.
+#![tactic(auto)]
+
 ghost use Rattle.std.specs.Prelude.{◌≤◌, ◌≡◌, true, length};
 ghost use Rattle.view.specs.View.{records_of};
 ghost use Rattle.view.specs.Table.{shaped, view_of_table};

@@ -1,4 +1,6 @@
 // Bytes as text: digits and the numbers that they write, runs of one byte, equal slices, and copies.
+#![tactic(auto)]
+
 ghost use Rattle.std.specs.Prelude.{◌+◌, ◌≤◌, ◌≡◌, eqb, length};
 ghost use Rattle.std.proofs.lemmas.List.Edits.{sets};
 ghost use Rattle.text.specs.Decimal.{every, is_digit, digits, digit_of, value, render};

@@ -1,0 +1,19 @@
+use Rattle.check_alone.specs.Kinds.{is_text}
+use Rattle.text.proofs.DecimalLaws.{every_turn, every_end}
+use Rattle.text.specs.Decimal.{every}
+use mathlib.Core.Path.{◌≡◌}
+use lib.ListN.{length, drop}
+use Prim.Native.Nat.{◌≤◌, ◌-◌}
+use mathlib.Core.Bool.{◌&&◌}
+use mathlib.Core.Path.{refl}
+use Rattle.std.proofs.Common.{rules}
+use Rattle.check_alone.proofs.texts.all_text.Goals as goal
+
+pub loop-i-init : goal.loop-i-init
+loop-i-init c = (search rules, refl)
+
+pub loop-i-preserved : goal.loop-i-preserved
+loop-i-preserved c = (search rules, rw c.is_text-all.ensures (every_turn is_text _ c.loop-i.i c.loop-i.all c.loop-i-test.true c.loop-i.invariant.1))
+
+pub returns : goal.returns
+returns c = every_end is_text _ c.loop-i.i c.loop-i.all c.loop-i-test.false c.loop-i.invariant.1

@@ -1,0 +1,15 @@
+use Rattle.check_alone.specs.Kinds.{is_text}
+use Rattle.text.proofs.DecimalLaws.{every_turn, every_end}
+use Rattle.text.specs.Decimal.{every}
+use mathlib.Core.Path.{◌≡◌}
+use lib.ListN.{length, drop}
+use Prim.Native.Nat.{◌≤◌, ◌-◌}
+use mathlib.Core.Bool.{◌&&◌}
+use mathlib.Core.Path.{refl}
+use Rattle.check_alone.proofs.texts.all_text.Given as goal
+
+abbrev pub invariant-loop-i : goal.invariant-loop-i
+invariant-loop-i l = (l.i ≤ length l.p) × ((l.all && every is_text (drop l.i l.p)) ≡ every is_text l.p)
+
+abbrev pub decreases-loop-i : goal.decreases-loop-i
+decreases-loop-i l = length l.p - l.i

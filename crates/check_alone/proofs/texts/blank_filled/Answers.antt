@@ -1,0 +1,10 @@
+use borrow.Author.Tests.{not-true, not-false}
+use mathlib.Core.Path.{refl}
+use Rattle.std.proofs.Common.{rules}
+use Rattle.check_alone.proofs.texts.blank_filled.Goals as goal
+
+pub returns-then-not-blank : goal.returns-then-not-blank
+returns-then-not-blank c = rw (← c.blank.ensures, not-true c.blank.result c.if-not-blank.true) refl
+
+pub returns : goal.returns
+returns c = rw (← c.blank.ensures, not-false c.blank.result c.if-not-blank.false) refl

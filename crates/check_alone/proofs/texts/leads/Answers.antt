@@ -1,0 +1,6 @@
+use mathlib.Core.Path.{refl}
+use Rattle.std.proofs.Common.{rules}
+use Rattle.check_alone.proofs.texts.leads.Goals as goal
+
+pub returns : goal.returns
+returns c = rw (← c.first.ensures) refl

@@ -1,0 +1,10 @@
+use borrow.Author.Tests.{not-true, not-false}
+use mathlib.Core.Path.{refl}
+use Rattle.std.proofs.Common.{rules}
+use Rattle.check_alone.proofs.texts.nine_filled.Goals as goal
+
+pub returns-then-not-all_are : goal.returns-then-not-all_are
+returns-then-not-all_are c = rw (← c.all_are.ensures, not-true c.all_are.result c.if-not-all_are.true) refl
+
+pub returns : goal.returns
+returns c = rw (← c.all_are.ensures, not-false c.all_are.result c.if-not-all_are.false) refl

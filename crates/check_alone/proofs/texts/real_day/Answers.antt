@@ -1,0 +1,6 @@
+use mathlib.Core.Path.{refl}
+use Rattle.std.proofs.Common.{rules}
+use Rattle.check_alone.proofs.texts.real_day.Goals as goal
+
+pub returns : goal.returns
+returns c = rw (← c.days_in.ensures) refl

@@ -1,0 +1,6 @@
+use mathlib.Core.Path.{refl}
+use Rattle.std.proofs.Common.{rules}
+use Rattle.check_digit.proofs.balanced.Goals as goal
+
+pub returns : goal.returns
+returns c = rw (c.group.ensures.0, c.group-2.ensures.0, c.group-3.ensures.0) refl

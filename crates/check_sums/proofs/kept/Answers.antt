@@ -1,0 +1,7 @@
+use mathlib.Core.Path.{◌∙◌}
+use Rattle.text.proofs.SetLaws.{sets_whole}
+use Rattle.std.proofs.Common.{rules}
+use Rattle.check_sums.proofs.kept.Goals as goal
+
+pub returns : goal.returns
+returns c = c.copy_into.ensures ∙ sets_whole _ c.args.rec.now (c.requires)

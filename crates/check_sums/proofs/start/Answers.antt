@@ -1,0 +1,7 @@
+use Rattle.check_sums.proofs.SumLaws.{start_fair}
+use mathlib.Core.Path.{refl}
+use Rattle.std.proofs.Common.{rules}
+use Rattle.check_sums.proofs.start.Goals as goal
+
+pub returns : goal.returns
+returns c = (refl, start_fair)

@@ -1,0 +1,15 @@
+use Rattle.csv_cells.proofs.CellLaws.{size_more, ends_more, size_stuck, ends_stuck, size_end, ends_end, cell_is}
+use Rattle.csv_cells.specs.Cells.{go_on, is_stuck, size_from, ends_from}
+use Rattle.csv_cells.specs.declared.Scan.{Scan}
+use lib.ListN.{length, drop, get_or}
+use mathlib.Core.Path.{◌≡◌}
+use native.Mathlib.Omega.{arith}
+use Prim.Native.Nat.{◌+◌, ◌-◌, ◌≤◌}
+use mathlib.Core.Path.{refl, sym, ◌∙◌, ap}
+use Rattle.csv_cells.proofs.front.Given as goal
+
+abbrev pub invariant-loop-i : goal.invariant-loop-i
+invariant-loop-i l = (l.i ≤ length l.s) × (l.i + size_from l.scan (drop l.i l.s) ≡ size_from Scan.Fresh l.s) × (ends_from l.scan (drop l.i l.s) ≡ ends_from Scan.Fresh l.s)
+
+abbrev pub decreases-loop-i : goal.decreases-loop-i
+decreases-loop-i l = length l.s - l.i

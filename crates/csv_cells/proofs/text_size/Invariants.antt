@@ -1,0 +1,15 @@
+use Rattle.csv_cells.proofs.CellLaws.{text_some, text_end}
+use Rattle.csv_cells.specs.Cells.{undoubled}
+use lib.ListN.{length, drop, length-drop}
+use mathlib.Core.Bool.{false}
+use mathlib.Core.Path.{◌≡◌}
+use native.Mathlib.Omega.{arith}
+use Prim.Native.Nat.{◌+◌, ◌-◌, ◌≤◌}
+use mathlib.Core.Path.{ap}
+use Rattle.csv_cells.proofs.text_size.Given as goal
+
+abbrev pub invariant-loop-i : goal.invariant-loop-i
+invariant-loop-i l = (l.i ≤ length l.inner) × (l.n ≤ l.i) × (l.n + length (undoubled false (drop l.i l.inner)) ≡ length (undoubled false l.inner))
+
+abbrev pub decreases-loop-i : goal.decreases-loop-i
+decreases-loop-i l = length l.inner - l.i

@@ -1,0 +1,11 @@
+use Rattle.csv_entry.proofs.AmountLaws.{amount_same}
+use borrow.Author.Tests.{eq-eqb, ne_eqb}
+use mathlib.Core.Path.{refl, ◌∙◌}
+use Rattle.std.proofs.Common.{rules}
+use Rattle.csv_entry.proofs.entries.field_right.Goals as goal
+
+pub returns-then-k-eq4 : goal.returns-then-k-eq4
+returns-then-k-eq4 c = rw (eq-eqb _ _ c.if-k-eq4.true) (c.amount-a.ensures.0 ∙ amount_same c.args.inner.now)
+
+pub returns : goal.returns
+returns c = rw (ne_eqb _ _ c.if-k-eq4.false, c.text_size.ensures, c.field_wide.ensures) refl

@@ -1,0 +1,15 @@
+use lib.ListN.{length, length-set}
+use Rattle.funds.proofs.WalkLaws.{Filling, filling_first, filling_long, filling_on, filled, row_room, sum_fits, few}
+use Rattle.find_entry.proofs.Parts.{starts}
+use Rattle.check_record.proofs.Ways.{some_bytes}
+use Rattle.layout.specs.Ways.{record_bytes}
+use lib.ListN.{length}
+use native.Mathlib.Omega.{arith}
+use Prim.Native.Nat.{◌+◌, ◌-◌, ◌/◌}
+use Rattle.funds.proofs.filling.fill.Given as goal
+
+abbrev pub invariant-loop-i : goal.invariant-loop-i
+invariant-loop-i l = Filling l.way l.file l.initial.rows l.i l.credits l.put l.rows
+
+abbrev pub decreases-loop-i : goal.decreases-loop-i
+decreases-loop-i l = length l.file / record_bytes l.way - l.i

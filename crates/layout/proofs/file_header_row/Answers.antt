@@ -1,0 +1,11 @@
+use mathlib.Core.Path.{refl}
+use Rattle.layout.proofs.Tables.{inside, behind}
+use Rattle.layout.specs.Fields.{file_header}
+use Rattle.std.proofs.Common.{rules}
+use Rattle.layout.proofs.file_header_row.Goals as goal
+
+pub returns-then-k-lt13 : goal.returns-then-k-lt13
+returns-then-k-lt13 c = inside file_header _ _ refl c.if-k-lt13.true
+
+pub returns : goal.returns
+returns c = behind file_header _ c.if-k-lt13.false

@@ -1,0 +1,6 @@
+use Rattle.table_form.proofs.FormLaws.{entry_formed}
+use Rattle.std.proofs.Common.{rules}
+use Rattle.table_form.proofs.forms.entry.Goals as goal
+
+pub returns : goal.returns
+returns c = rw c.put.ensures (entry_formed c.args.row.now (c.requires))

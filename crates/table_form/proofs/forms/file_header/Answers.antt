@@ -1,0 +1,6 @@
+use Rattle.table_form.proofs.FormLaws.{file_formed}
+use Rattle.std.proofs.Common.{rules}
+use Rattle.table_form.proofs.forms.file_header.Goals as goal
+
+pub returns : goal.returns
+returns c = rw (c.put.ensures, c.put-fixed.ensures, c.put-front.ensures, c.put-typed.ensures) (file_formed c.args.row.now (c.requires))

@@ -1,0 +1,14 @@
+use Rattle.table_read.proofs.Writing.{left_long, count_small, BatchesLeft, batches_start, batches_room, batches_next, batches_end}
+use Rattle.check_record.proofs.Ways.{columns_at, columns_long, room_for, even_on, even_none, some_bytes, bytes_few}
+use Rattle.layout.specs.Ways.{record_bytes}
+use native.Mathlib.Omega.{arith}
+use lib.ListN.{length}
+use mathlib.Core.Path.{◌≡◌}
+use Prim.Native.Nat.{◌-◌, ◌%◌, ◌≤◌}
+use Rattle.table_read.proofs.putting.put_batches.Given as goal
+
+abbrev pub invariant-loop-at : goal.invariant-loop-at
+invariant-loop-at l = (l.at ≤ length l.file) × (l.at % record_bytes l.way ≡ 0) × (l.count ≤ l.at) × BatchesLeft l.way l.file l.initial.table l.start l.count l.table l.to l.at
+
+abbrev pub decreases-loop-at : goal.decreases-loop-at
+decreases-loop-at l = length l.file - l.at

@@ -1,0 +1,16 @@
+use mathlib.Core.Path.{◌≡◌, refl, ◌∙◌}
+use mathlib.Core.List.{◌++◌, append-nil}
+use Prim.Native.Nat.{◌≤◌}
+use native.Mathlib.Omega.{arith}
+use lib.Arith.{le-zero}
+use lib.ListN.{length, drop}
+use lib.Seq.{drop-length}
+use Rattle.text.specs.Decimal.{render}
+use Rattle.text.proofs.DecimalLaws.{render_turn}
+use Rattle.text.proofs.put_number.Given as goal
+
+abbrev pub invariant-loop-i : goal.invariant-loop-i
+invariant-loop-i l = (l.i ≤ length l.initial.s) × (length l.s ≡ length l.initial.s) × (render l.i l.left ++ drop l.i l.s ≡ render (length l.initial.s) l.n)
+
+abbrev pub decreases-loop-i : goal.decreases-loop-i
+decreases-loop-i l = l.i

@@ -1,0 +1,14 @@
+use mathlib.Core.Path.{◌≡◌, refl, sym}
+use mathlib.Core.Bool.{◌&&◌}
+use Prim.Native.Nat.{◌≤◌, ◌-◌}
+use native.Mathlib.Omega.{arith}
+use lib.ListN.{length, drop}
+use Rattle.text.specs.Same.{same_bytes}
+use Rattle.text.proofs.DecimalLaws.{same_turn, same_end, same_length}
+use Rattle.text.proofs.same.Given as goal
+
+abbrev pub invariant-loop-i : goal.invariant-loop-i
+invariant-loop-i l = (l.i ≤ length l.a) × ((l.all && same_bytes (drop l.i l.a) (drop l.i l.b)) ≡ same_bytes l.a l.b)
+
+abbrev pub decreases-loop-i : goal.decreases-loop-i
+decreases-loop-i l = length l.a - l.i
