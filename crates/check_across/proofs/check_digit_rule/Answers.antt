@@ -7,13 +7,13 @@ use Rattle.std.proofs.Common.{rules}
 use Rattle.check_across.proofs.check_digit_rule.Goals as goal
 
 pub returns-then-not-digits : goal.returns-then-not-digits
-returns-then-not-digits c = rw (← c.digits.ensures, not-true c.digits.result c.if-not-digits.true) refl
+returns-then-not-digits c = rw (← c.digits.ensures, c.if-not-digits.true) refl
 
 pub balanced-requires : goal.balanced-requires
 balanced-requires c = (below _ 8 (part entry 3 c.args.rec.now) c.entry_bank.ensures (bank_long c.args.rec.now c.requires.0), below _ 1 c.args.p.now c.number.ensures c.requires.1, c.requires.2)
 
 pub returns-then-not-balanced : goal.returns-then-not-balanced
-returns-then-not-balanced c = rw (← c.digits.ensures, not-false c.digits.result c.if-not-digits.false, ← digit_told c.balanced.result _ _ (part entry 3 c.args.rec.now) c.args.p.now c.entry_bank.ensures c.number.ensures (bank_long c.args.rec.now c.requires.0) c.requires.1 c.balanced.ensures, not-true c.balanced.result c.if-not-balanced.true) refl
+returns-then-not-balanced c = rw (← c.digits.ensures, c.if-not-digits.false, ← digit_told c.balanced.result _ _ (part entry 3 c.args.rec.now) c.args.p.now c.entry_bank.ensures c.number.ensures (bank_long c.args.rec.now c.requires.0) c.requires.1 c.balanced.ensures, c.if-not-balanced.true) refl
 
 pub returns : goal.returns
-returns c = rw (← c.digits.ensures, not-false c.digits.result c.if-not-digits.false, ← digit_told c.balanced.result _ _ (part entry 3 c.args.rec.now) c.args.p.now c.entry_bank.ensures c.number.ensures (bank_long c.args.rec.now c.requires.0) c.requires.1 c.balanced.ensures, not-false c.balanced.result c.if-not-balanced.false) refl
+returns c = rw (← c.digits.ensures, c.if-not-digits.false, ← digit_told c.balanced.result _ _ (part entry 3 c.args.rec.now) c.args.p.now c.entry_bank.ensures c.number.ensures (bank_long c.args.rec.now c.requires.0) c.requires.1 c.balanced.ensures, c.if-not-balanced.false) refl

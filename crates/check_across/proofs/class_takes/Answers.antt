@@ -4,7 +4,7 @@ use Rattle.std.proofs.Common.{rules}
 use Rattle.check_across.proofs.class_takes.Goals as goal
 
 pub returns-then-not-remits : goal.returns-then-not-remits
-returns-then-not-remits c = rw (← c.remits.ensures, not-true c.remits.result c.if-not-remits.true) refl
+returns-then-not-remits c = rw (← c.remits.ensures, c.if-not-remits.true) refl
 
 pub returns : goal.returns
-returns c = rw (← c.remits.ensures, not-false c.remits.result c.if-not-remits.false, ← c.is_ppd.ensures) refl
+returns c = rw (← c.remits.ensures, c.if-not-remits.false, ← c.is_ppd.ensures) refl

@@ -4,16 +4,16 @@ use Rattle.std.proofs.Common.{rules}
 use Rattle.check_across.proofs.code_rule.Goals as goal
 
 pub returns-then-not-digits : goal.returns-then-not-digits
-returns-then-not-digits c = rw (← c.digits.ensures, not-true c.digits.result c.if-not-digits.true) refl
+returns-then-not-digits c = rw (← c.digits.ensures, c.if-not-digits.true) refl
 
 pub returns-then-not-known : goal.returns-then-not-known
-returns-then-not-known c = rw (← c.digits.ensures, not-false c.digits.result c.if-not-digits.false, ← c.number.ensures, ← c.code_of-code.ensures, ← c.known.ensures, not-true c.known.result c.if-not-known.true) refl
+returns-then-not-known c = rw (← c.digits.ensures, c.if-not-digits.false, ← c.number.ensures, ← c.code_of-code.ensures, ← c.known.ensures, c.if-not-known.true) refl
 
 pub returns-then-not-allowed : goal.returns-then-not-allowed
-returns-then-not-allowed c = rw (← c.digits.ensures, not-false c.digits.result c.if-not-digits.false, ← c.number.ensures, ← c.code_of-code.ensures, ← c.known.ensures, not-false c.known.result c.if-not-known.false, ← c.batch_class.ensures, ← c.allowed.ensures, not-true c.allowed.result c.if-not-allowed.true) refl
+returns-then-not-allowed c = rw (← c.digits.ensures, c.if-not-digits.false, ← c.number.ensures, ← c.code_of-code.ensures, ← c.known.ensures, c.if-not-known.false, ← c.batch_class.ensures, ← c.allowed.ensures, c.if-not-allowed.true) refl
 
 pub returns-then-not-class_takes : goal.returns-then-not-class_takes
-returns-then-not-class_takes c = rw (← c.digits.ensures, not-false c.digits.result c.if-not-digits.false, ← c.number.ensures, ← c.code_of-code.ensures, ← c.known.ensures, not-false c.known.result c.if-not-known.false, ← c.batch_class.ensures, ← c.allowed.ensures, not-false c.allowed.result c.if-not-allowed.false, ← c.class_takes.ensures, not-true c.class_takes.result c.if-not-class_takes.true) refl
+returns-then-not-class_takes c = rw (← c.digits.ensures, c.if-not-digits.false, ← c.number.ensures, ← c.code_of-code.ensures, ← c.known.ensures, c.if-not-known.false, ← c.batch_class.ensures, ← c.allowed.ensures, c.if-not-allowed.false, ← c.class_takes.ensures, c.if-not-class_takes.true) refl
 
 pub returns : goal.returns
-returns c = rw (← c.digits.ensures, not-false c.digits.result c.if-not-digits.false, ← c.number.ensures, ← c.code_of-code.ensures, ← c.known.ensures, not-false c.known.result c.if-not-known.false, ← c.batch_class.ensures, ← c.allowed.ensures, not-false c.allowed.result c.if-not-allowed.false, ← c.class_takes.ensures, not-false c.class_takes.result c.if-not-class_takes.false) refl
+returns c = rw (← c.digits.ensures, c.if-not-digits.false, ← c.number.ensures, ← c.code_of-code.ensures, ← c.known.ensures, c.if-not-known.false, ← c.batch_class.ensures, ← c.allowed.ensures, c.if-not-allowed.false, ← c.class_takes.ensures, c.if-not-class_takes.false) refl

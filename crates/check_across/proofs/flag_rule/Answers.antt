@@ -7,10 +7,10 @@ use Rattle.std.proofs.Common.{rules}
 use Rattle.check_across.proofs.flag_rule.Goals as goal
 
 pub returns-then-not-b : goal.returns-then-not-b
-returns-then-not-b c = rw (not-true (eqb (get_or c.args.p.now 0 0) 48 || eqb (get_or c.args.p.now 0 0) 49) c.if-not-b.true) refl
+returns-then-not-b c = rw (c.if-not-b.true) refl
 
 pub returns-then-remits-b : goal.returns-then-remits-b
-returns-then-remits-b c = rw (not-false (eqb (get_or c.args.p.now 0 0) 48 || eqb (get_or c.args.p.now 0 0) 49) c.if-not-b.false, ← c.remits.ensures, c.if-remits-b.true) refl
+returns-then-remits-b c = rw (c.if-not-b.false, ← c.remits.ensures, c.if-remits-b.true) refl
 
 pub returns : goal.returns
-returns c = rw (not-false (eqb (get_or c.args.p.now 0 0) 48 || eqb (get_or c.args.p.now 0 0) 49) c.if-not-b.false, ← c.remits.ensures, c.if-remits-b.false) refl
+returns c = rw (c.if-not-b.false, ← c.remits.ensures, c.if-remits-b.false) refl

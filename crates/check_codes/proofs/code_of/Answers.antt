@@ -23,4 +23,4 @@ pub returns-in-29 : goal.returns-in-29
 returns-in-29 c = ⊎_elim (λ e. rw e refl) (λ e. rw e refl) c.in-29.is
 
 pub returns-in_default : goal.returns-in_default
-returns-in_default c = let r = c.in_default.rest in unknown _ r.0.0.0.0.0.1 r.0.0.0.0.1 r.0.0.0.1 r.0.0.1 r.0.1 r.1
+returns-in_default c = let r = c.in_default.in_default-own.rest in unknown _ r.0.0.0.0.0.1 r.0.0.0.0.1 r.0.0.0.1 r.0.0.1 r.0.1 r.1

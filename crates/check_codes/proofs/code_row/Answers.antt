@@ -38,4 +38,4 @@ pub returns-in-38 : goal.returns-in-38
 returns-in-38 c = (rw c.in-38.is refl, lit< tt)
 
 pub returns-in_default : goal.returns-in_default
-returns-in_default c = let r = c.in_default.rest in (rw (ne_eqb _ 22 r.0.0.0.0.0.0.0.0.0.0.1, ne_eqb _ 23 r.0.0.0.0.0.0.0.0.0.1, ne_eqb _ 24 r.0.0.0.0.0.0.0.0.1, ne_eqb _ 27 r.0.0.0.0.0.0.0.1, ne_eqb _ 28 r.0.0.0.0.0.0.1, ne_eqb _ 29 r.0.0.0.0.0.1, ne_eqb _ 32 r.0.0.0.0.1, ne_eqb _ 33 r.0.0.0.1, ne_eqb _ 34 r.0.0.1, ne_eqb _ 37 r.0.1, ne_eqb _ 38 r.1) refl, lit< tt)
+returns-in_default c = let r = c.in_default.in_default-own.rest in (rw (ne_eqb _ 22 r.0.0.0.0.0.0.0.0.0.0.1, ne_eqb _ 23 r.0.0.0.0.0.0.0.0.0.1, ne_eqb _ 24 r.0.0.0.0.0.0.0.0.1, ne_eqb _ 27 r.0.0.0.0.0.0.0.1, ne_eqb _ 28 r.0.0.0.0.0.0.1, ne_eqb _ 29 r.0.0.0.0.0.1, ne_eqb _ 32 r.0.0.0.0.1, ne_eqb _ 33 r.0.0.0.1, ne_eqb _ 34 r.0.0.1, ne_eqb _ 37 r.0.1, ne_eqb _ 38 r.1) refl, lit< tt)

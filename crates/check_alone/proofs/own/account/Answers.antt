@@ -4,13 +4,13 @@ use Rattle.std.proofs.Common.{rules}
 use Rattle.check_alone.proofs.own.account.Goals as goal
 
 pub returns-then-not-all_account : goal.returns-then-not-all_account
-returns-then-not-all_account c = rw (← c.all_account.ensures, not-true c.all_account.result c.if-not-all_account.true) refl
+returns-then-not-all_account c = rw (← c.all_account.ensures, c.if-not-all_account.true) refl
 
 pub returns-then-blank : goal.returns-then-blank
-returns-then-blank c = rw (← c.all_account.ensures, not-false c.all_account.result c.if-not-all_account.false, ← c.blank.ensures, c.if-blank.true) refl
+returns-then-blank c = rw (← c.all_account.ensures, c.if-not-all_account.false, ← c.blank.ensures, c.if-blank.true) refl
 
 pub returns-then-not-unbroken : goal.returns-then-not-unbroken
-returns-then-not-unbroken c = rw (← c.all_account.ensures, not-false c.all_account.result c.if-not-all_account.false, ← c.blank.ensures, c.if-blank.false, ← c.unbroken.ensures, not-true c.unbroken.result c.if-not-unbroken.true) refl
+returns-then-not-unbroken c = rw (← c.all_account.ensures, c.if-not-all_account.false, ← c.blank.ensures, c.if-blank.false, ← c.unbroken.ensures, c.if-not-unbroken.true) refl
 
 pub returns : goal.returns
-returns c = rw (← c.all_account.ensures, not-false c.all_account.result c.if-not-all_account.false, ← c.blank.ensures, c.if-blank.false, ← c.unbroken.ensures, not-false c.unbroken.result c.if-not-unbroken.false) refl
+returns c = rw (← c.all_account.ensures, c.if-not-all_account.false, ← c.blank.ensures, c.if-blank.false, ← c.unbroken.ensures, c.if-not-unbroken.false) refl

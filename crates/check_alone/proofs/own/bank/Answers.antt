@@ -4,10 +4,10 @@ use Rattle.std.proofs.Common.{rules}
 use Rattle.check_alone.proofs.own.bank.Goals as goal
 
 pub returns-then-not-digits : goal.returns-then-not-digits
-returns-then-not-digits c = rw (← c.digits.ensures, not-true c.digits.result c.if-not-digits.true) refl
+returns-then-not-digits c = rw (← c.digits.ensures, c.if-not-digits.true) refl
 
 pub returns-then-first-le51 : goal.returns-then-first-le51
-returns-then-first-le51 c = rw (← c.digits.ensures, not-false c.digits.result c.if-not-digits.false, ← c.first.ensures, le-leb _ _ c.if-first-le51.true) refl
+returns-then-first-le51 c = rw (← c.digits.ensures, c.if-not-digits.false, ← c.first.ensures, le-leb _ _ c.if-first-le51.true) refl
 
 pub returns : goal.returns
-returns c = rw (← c.digits.ensures, not-false c.digits.result c.if-not-digits.false, ← c.first.ensures, lt-leb _ _ c.if-first-le51.false) refl
+returns c = rw (← c.digits.ensures, c.if-not-digits.false, ← c.first.ensures, lt-leb _ _ c.if-first-le51.false) refl

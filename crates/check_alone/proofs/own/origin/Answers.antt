@@ -4,13 +4,13 @@ use Rattle.std.proofs.Common.{rules}
 use Rattle.check_alone.proofs.own.origin.Goals as goal
 
 pub returns-then-not-digits : goal.returns-then-not-digits
-returns-then-not-digits c = rw (← c.digits.ensures, not-true c.digits.result c.if-not-digits.true) refl
+returns-then-not-digits c = rw (← c.digits.ensures, c.if-not-digits.true) refl
 
 pub returns-then-leads : goal.returns-then-leads
-returns-then-leads c = rw (← c.digits.ensures, not-false c.digits.result c.if-not-digits.false, ← c.leads.ensures, c.if-leads.true) refl
+returns-then-leads c = rw (← c.digits.ensures, c.if-not-digits.false, ← c.leads.ensures, c.if-leads.true) refl
 
 pub returns-then-not-is_digit : goal.returns-then-not-is_digit
-returns-then-not-is_digit c = rw (← c.digits.ensures, not-false c.digits.result c.if-not-digits.false, ← c.leads.ensures, c.if-leads.false, ← c.first.ensures, ← c.is_digit.ensures, not-true c.is_digit.result c.if-not-is_digit.true) refl
+returns-then-not-is_digit c = rw (← c.digits.ensures, c.if-not-digits.false, ← c.leads.ensures, c.if-leads.false, ← c.first.ensures, ← c.is_digit.ensures, c.if-not-is_digit.true) refl
 
 pub returns : goal.returns
-returns c = rw (← c.digits.ensures, not-false c.digits.result c.if-not-digits.false, ← c.leads.ensures, c.if-leads.false, ← c.first.ensures, ← c.is_digit.ensures, not-false c.is_digit.result c.if-not-is_digit.false) refl
+returns c = rw (← c.digits.ensures, c.if-not-digits.false, ← c.leads.ensures, c.if-leads.false, ← c.first.ensures, ← c.is_digit.ensures, c.if-not-is_digit.false) refl

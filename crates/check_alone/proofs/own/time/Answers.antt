@@ -7,10 +7,10 @@ pub returns-then-blank : goal.returns-then-blank
 returns-then-blank c = rw (← c.blank.ensures, c.if-blank.true) refl
 
 pub returns-then-not-digits : goal.returns-then-not-digits
-returns-then-not-digits c = rw (← c.blank.ensures, c.if-blank.false, ← c.digits.ensures, not-true c.digits.result c.if-not-digits.true) refl
+returns-then-not-digits c = rw (← c.blank.ensures, c.if-blank.false, ← c.digits.ensures, c.if-not-digits.true) refl
 
 pub returns-then-not-real_time : goal.returns-then-not-real_time
-returns-then-not-real_time c = rw (← c.blank.ensures, c.if-blank.false, ← c.digits.ensures, not-false c.digits.result c.if-not-digits.false, ← c.number-n.ensures, ← c.real_time.ensures, not-true c.real_time.result c.if-not-real_time.true) refl
+returns-then-not-real_time c = rw (← c.blank.ensures, c.if-blank.false, ← c.digits.ensures, c.if-not-digits.false, ← c.number-n.ensures, ← c.real_time.ensures, c.if-not-real_time.true) refl
 
 pub returns : goal.returns
-returns c = rw (← c.blank.ensures, c.if-blank.false, ← c.digits.ensures, not-false c.digits.result c.if-not-digits.false, ← c.number-n.ensures, ← c.real_time.ensures, not-false c.real_time.result c.if-not-real_time.false) refl
+returns c = rw (← c.blank.ensures, c.if-blank.false, ← c.digits.ensures, c.if-not-digits.false, ← c.number-n.ensures, ← c.real_time.ensures, c.if-not-real_time.false) refl

@@ -4,7 +4,7 @@ use Rattle.std.proofs.Common.{rules}
 use Rattle.check_alone.proofs.texts.nine_filled.Goals as goal
 
 pub returns-then-not-all_are : goal.returns-then-not-all_are
-returns-then-not-all_are c = rw (← c.all_are.ensures, not-true c.all_are.result c.if-not-all_are.true) refl
+returns-then-not-all_are c = rw (← c.all_are.ensures, c.if-not-all_are.true) refl
 
 pub returns : goal.returns
-returns c = rw (← c.all_are.ensures, not-false c.all_are.result c.if-not-all_are.false) refl
+returns c = rw (← c.all_are.ensures, c.if-not-all_are.false) refl

@@ -5,7 +5,7 @@ use Rattle.std.proofs.Common.{rules}
 use Rattle.check_field.proofs.field.as_batch.Goals as goal
 
 pub returns-then-not-same : goal.returns-then-not-same
-returns-then-not-same c = as_batch_is _ false _ _ _ (not-true _ c.if-not-same.true) c.same.ensures
+returns-then-not-same c = as_batch_is _ false _ _ _ (c.if-not-same.true) c.same.ensures
 
 pub returns : goal.returns
-returns c = as_batch_is _ true _ _ _ (not-false _ c.if-not-same.false) c.same.ensures
+returns c = as_batch_is _ true _ _ _ (c.if-not-same.false) c.same.ensures

@@ -4,10 +4,10 @@ use Rattle.std.proofs.Common.{rules}
 use Rattle.check_field.proofs.field.count_rule.Goals as goal
 
 pub returns-then-not-digits : goal.returns-then-not-digits
-returns-then-not-digits c = rw (← c.digits.ensures, not-true c.digits.result c.if-not-digits.true) refl
+returns-then-not-digits c = rw (← c.digits.ensures, c.if-not-digits.true) refl
 
 pub returns-then-number-n : goal.returns-then-number-n
-returns-then-number-n c = rw (← c.digits.ensures, not-false c.digits.result c.if-not-digits.false, ← c.number.ensures, ne_eqb _ _ c.if-number-n.true) refl
+returns-then-number-n c = rw (← c.digits.ensures, c.if-not-digits.false, ← c.number.ensures, ne_eqb _ _ c.if-number-n.true) refl
 
 pub returns : goal.returns
-returns c = rw (← c.digits.ensures, not-false c.digits.result c.if-not-digits.false, ← c.number.ensures, eq-eqb _ _ c.if-number-n.false) refl
+returns c = rw (← c.digits.ensures, c.if-not-digits.false, ← c.number.ensures, eq-eqb _ _ c.if-number-n.false) refl

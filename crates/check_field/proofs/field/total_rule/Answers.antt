@@ -6,13 +6,13 @@ use Rattle.std.proofs.Common.{rules}
 use Rattle.check_field.proofs.field.total_rule.Goals as goal
 
 pub returns-then-not-digits : goal.returns-then-not-digits
-returns-then-not-digits c = rw (← c.digits.ensures, not-true c.digits.result c.if-not-digits.true) refl
+returns-then-not-digits c = rw (← c.digits.ensures, c.if-not-digits.true) refl
 
 pub returns-then-n-gt999999999999 : goal.returns-then-n-gt999999999999
-returns-then-n-gt999999999999 c = rw (← c.digits.ensures, not-false c.digits.result c.if-not-digits.false, lt-leb _ _ c.if-n-gt999999999999.true) refl
+returns-then-n-gt999999999999 c = rw (← c.digits.ensures, c.if-not-digits.false, lt-leb _ _ c.if-n-gt999999999999.true) refl
 
 pub returns-then-number-n : goal.returns-then-number-n
-returns-then-number-n c = rw (← c.digits.ensures, not-false c.digits.result c.if-not-digits.false, le-leb _ _ c.if-n-gt999999999999.false, ← c.number.ensures, ne_eqb _ _ c.if-number-n.true) refl
+returns-then-number-n c = rw (← c.digits.ensures, c.if-not-digits.false, le-leb _ _ c.if-n-gt999999999999.false, ← c.number.ensures, ne_eqb _ _ c.if-number-n.true) refl
 
 pub returns : goal.returns
-returns c = rw (← c.digits.ensures, not-false c.digits.result c.if-not-digits.false, le-leb _ _ c.if-n-gt999999999999.false, ← c.number.ensures, eq-eqb _ _ c.if-number-n.false) refl
+returns c = rw (← c.digits.ensures, c.if-not-digits.false, le-leb _ _ c.if-n-gt999999999999.false, ← c.number.ensures, eq-eqb _ _ c.if-number-n.false) refl

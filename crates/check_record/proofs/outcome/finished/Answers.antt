@@ -4,7 +4,7 @@ use Rattle.std.proofs.Common.{rules}
 use Rattle.check_record.proofs.outcome.finished.Goals as goal
 
 pub returns-then-not-complete : goal.returns-then-not-complete
-returns-then-not-complete c = rw (← c.complete.ensures, not-true c.complete.result c.if-not-complete.true, ← c.refused.ensures) refl
+returns-then-not-complete c = rw (← c.complete.ensures, c.if-not-complete.true, ← c.refused.ensures) refl
 
 pub returns : goal.returns
-returns c = rw (← c.complete.ensures, not-false c.complete.result c.if-not-complete.false) refl
+returns c = rw (← c.complete.ensures, c.if-not-complete.false) refl

@@ -16,7 +16,7 @@ pub entry_back-requires : goal.entry_back-requires
 entry_back-requires c = (c.requires.0, c.requires.1, c.requires.2)
 
 pub returns-else-not-entry_front : goal.returns-else-not-entry_front
-returns-else-not-entry_front c = λ e. rw c.in-Entry.is (entry_passes c.args.sums c.args.header.now c.args.rec.now (sym c.entry_front.ensures ∙ not-false _ c.if-not-entry_front.false) (sym c.entry_back.ensures ∙ e))
+returns-else-not-entry_front c = λ e. rw c.in-Entry.is (entry_passes c.args.sums c.args.header.now c.args.rec.now (sym c.entry_front.ensures ∙ c.if-not-entry_front.false) (sym c.entry_back.ensures ∙ e))
 
 pub returns-in-Addendum : goal.returns-in-Addendum
 returns-in-Addendum c = λ e. rw c.in-Addendum.is (addendum_passes c.args.sums c.args.header.now c.args.rec.now (sym c.addendum_all.ensures ∙ e))

@@ -21,4 +21,4 @@ pub returns-in-5 : goal.returns-in-5
 returns-in-5 c = rw c.in-5.is refl
 
 pub returns-in_default : goal.returns-in_default
-returns-in_default c = let six : c.args.k ≡ 6 = omega (arith, c.requires.0, c.requires.1, c.in_default.rest) in rw six refl
+returns-in_default c = let six : c.args.k ≡ 6 = omega (arith, c.requires.0, c.requires.1, c.in_default.in_default-own.rest) in rw six refl

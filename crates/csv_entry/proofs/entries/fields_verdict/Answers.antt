@@ -29,7 +29,7 @@ pub field_right-requires : goal.field_right-requires
 field_right-requires c = (c.loop-k.invariant.0, c.loop-k.invariant.1)
 
 pub returns-then-not-field_right : goal.returns-then-not-field_right
-returns-then-not-field_right c = rw c.field_fault.ensures (sym (verdict_wrong c.args.s.now c.loop-k.at c.loop-k.k c.loop-k-test.true (sym (c.field_right.ensures ∙ ap (field_right c.loop-k.k) (text_of c.args.s.now c.loop-k.at c.cell_at-c.result c.inner.result.now c.cell_at-c.ensures.0 c.inner.ensures)) ∙ not-true _ c.if-not-field_right.true)) ∙ c.loop-k.invariant.4)
+returns-then-not-field_right c = rw c.field_fault.ensures (sym (verdict_wrong c.args.s.now c.loop-k.at c.loop-k.k c.loop-k-test.true (sym (c.field_right.ensures ∙ ap (field_right c.loop-k.k) (text_of c.args.s.now c.loop-k.at c.cell_at-c.result c.inner.result.now c.cell_at-c.ensures.0 c.inner.ensures)) ∙ c.if-not-field_right.true)) ∙ c.loop-k.invariant.4)
 
 pub overflow_add-at : goal.overflow_add-at
 overflow_add-at c = record { fits = omega (arith, (right_step c.args.s.now c.loop-k.at c.loop-k.k c.loop-k-test.true c.loop-k.invariant.3).0, stop_of c.args.s.now c.loop-k.at c.cell_at-c.result c.cell_at-c.ensures.0) }
@@ -39,7 +39,7 @@ loop-k-smaller c = omega (arith, c.loop-k-test.true)
 
 pub loop-k-preserved : goal.loop-k-preserved
 loop-k-preserved c = let step = right_step c.args.s.now c.loop-k.at c.loop-k.k c.loop-k-test.true c.loop-k.invariant.3 in let stop = stop_of c.args.s.now c.loop-k.at c.cell_at-c.result c.cell_at-c.ensures.0 in
-    (omega (arith, c.loop-k.invariant.0), omega (arith, c.loop-k-test.true), omega (arith, step.0, stop), ap (λ n. fields_right (6 - (c.loop-k.k + 1)) c.args.s.now (n + 1)) stop ∙ step.1, ap (λ n. texts_verdict (c.loop-k.k + 1) (texts_from (6 - (c.loop-k.k + 1)) c.args.s.now (n + 1))) stop ∙ sym (verdict_right c.args.s.now c.loop-k.at c.loop-k.k c.loop-k-test.true (sym (c.field_right.ensures ∙ ap (field_right c.loop-k.k) (text_of c.args.s.now c.loop-k.at c.cell_at-c.result c.inner.result.now c.cell_at-c.ensures.0 c.inner.ensures)) ∙ not-false _ c.if-not-field_right.false)) ∙ c.loop-k.invariant.4)
+    (omega (arith, c.loop-k.invariant.0), omega (arith, c.loop-k-test.true), omega (arith, step.0, stop), ap (λ n. fields_right (6 - (c.loop-k.k + 1)) c.args.s.now (n + 1)) stop ∙ step.1, ap (λ n. texts_verdict (c.loop-k.k + 1) (texts_from (6 - (c.loop-k.k + 1)) c.args.s.now (n + 1))) stop ∙ sym (verdict_right c.args.s.now c.loop-k.at c.loop-k.k c.loop-k-test.true (sym (c.field_right.ensures ∙ ap (field_right c.loop-k.k) (text_of c.args.s.now c.loop-k.at c.cell_at-c.result c.inner.result.now c.cell_at-c.ensures.0 c.inner.ensures)) ∙ c.if-not-field_right.false)) ∙ c.loop-k.invariant.4)
 
 pub cell_at-c-requires-2 : goal.cell_at-c-requires-2
 cell_at-c-requires-2 c = c.loop-k.invariant.2
@@ -54,7 +54,7 @@ pub field_right-requires-2 : goal.field_right-requires-2
 field_right-requires-2 c = (lit≤ tt, lit≤ tt)
 
 pub returns-then-not-field_right-2 : goal.returns-then-not-field_right-2
-returns-then-not-field_right-2 c = sym (last_wrong c.args.s.now c.loop-k.at (sym (c.field_right-2.ensures ∙ ap (field_right 6) (text_of c.args.s.now c.loop-k.at c.cell_at-c-2.result c.inner-2.result.now c.cell_at-c-2.ensures.0 c.inner-2.ensures)) ∙ not-true _ c.if-not-field_right-2.true)) ∙ at_six (λ x. texts_verdict x (texts_from (6 - x) c.args.s.now c.loop-k.at) ≡ texts_verdict 1 (six_texts c.args.s.now)) c.loop-k.k c.loop-k.invariant.1 c.loop-k-test.false c.loop-k.invariant.4
+returns-then-not-field_right-2 c = sym (last_wrong c.args.s.now c.loop-k.at (sym (c.field_right-2.ensures ∙ ap (field_right 6) (text_of c.args.s.now c.loop-k.at c.cell_at-c-2.result c.inner-2.result.now c.cell_at-c-2.ensures.0 c.inner-2.ensures)) ∙ c.if-not-field_right-2.true)) ∙ at_six (λ x. texts_verdict x (texts_from (6 - x) c.args.s.now c.loop-k.at) ≡ texts_verdict 1 (six_texts c.args.s.now)) c.loop-k.k c.loop-k.invariant.1 c.loop-k-test.false c.loop-k.invariant.4
 
 pub returns : goal.returns
-returns c = sym (last_right c.args.s.now c.loop-k.at (sym (c.field_right-2.ensures ∙ ap (field_right 6) (text_of c.args.s.now c.loop-k.at c.cell_at-c-2.result c.inner-2.result.now c.cell_at-c-2.ensures.0 c.inner-2.ensures)) ∙ not-false _ c.if-not-field_right-2.false)) ∙ at_six (λ x. texts_verdict x (texts_from (6 - x) c.args.s.now c.loop-k.at) ≡ texts_verdict 1 (six_texts c.args.s.now)) c.loop-k.k c.loop-k.invariant.1 c.loop-k-test.false c.loop-k.invariant.4
+returns c = sym (last_right c.args.s.now c.loop-k.at (sym (c.field_right-2.ensures ∙ ap (field_right 6) (text_of c.args.s.now c.loop-k.at c.cell_at-c-2.result c.inner-2.result.now c.cell_at-c-2.ensures.0 c.inner-2.ensures)) ∙ c.if-not-field_right-2.false)) ∙ at_six (λ x. texts_verdict x (texts_from (6 - x) c.args.s.now c.loop-k.at) ≡ texts_verdict 1 (six_texts c.args.s.now)) c.loop-k.k c.loop-k.invariant.1 c.loop-k-test.false c.loop-k.invariant.4

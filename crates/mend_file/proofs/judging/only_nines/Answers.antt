@@ -41,7 +41,7 @@ pub overflow_add-i : goal.overflow_add-i
 overflow_add-i c = record { fits = omega (arith, (along c.args.way c.args.file.now c.loop-at.at c.loop-at.i c.requires.0 c.loop-at.invariant.0 c.loop-at.invariant.1 c.if-at-size.false).few) }
 
 pub returns-then-not-same : goal.returns-then-not-same
-returns-then-not-same c = c.refused.ensures ∙ sym (nines_stop c.args.way c.args.file.now (c.loop-at.i + 1) c.loop-at.at (along c.args.way c.args.file.now c.loop-at.at c.loop-at.i c.requires.0 c.loop-at.invariant.0 c.loop-at.invariant.1 c.if-at-size.false).room (sym (rw c.filler-nines.ensures at c.same.ensures) ∙ not-true c.same.result c.if-not-same.true)) ∙ c.loop-at.invariant.2
+returns-then-not-same c = c.refused.ensures ∙ sym (nines_stop c.args.way c.args.file.now (c.loop-at.i + 1) c.loop-at.at (along c.args.way c.args.file.now c.loop-at.at c.loop-at.i c.requires.0 c.loop-at.invariant.0 c.loop-at.invariant.1 c.if-at-size.false).room (sym (rw c.filler-nines.ensures at c.same.ensures) ∙ c.if-not-same.true)) ∙ c.loop-at.invariant.2
 
 pub overflow_add-i-in-loop-at : goal.overflow_add-i-in-loop-at
 overflow_add-i-in-loop-at c = record { fits = omega (arith, (along c.args.way c.args.file.now c.loop-at.at c.loop-at.i c.requires.0 c.loop-at.invariant.0 c.loop-at.invariant.1 c.if-at-size.false).few) }
@@ -53,4 +53,4 @@ pub loop-at-smaller : goal.loop-at-smaller
 loop-at-smaller c = omega (arith, c.record_bytes-at.ensures, some_bytes c.args.way, (along c.args.way c.args.file.now c.loop-at.at c.loop-at.i c.requires.0 c.loop-at.invariant.0 c.loop-at.invariant.1 c.if-at-size.false).room)
 
 pub loop-at-preserved : goal.loop-at-preserved
-loop-at-preserved c = (ap (λ w. c.loop-at.at + w) c.record_bytes-at.ensures ∙ (along c.args.way c.args.file.now c.loop-at.at c.loop-at.i c.requires.0 c.loop-at.invariant.0 c.loop-at.invariant.1 c.if-at-size.false).next, omega (arith, c.record_bytes-at.ensures, (along c.args.way c.args.file.now c.loop-at.at c.loop-at.i c.requires.0 c.loop-at.invariant.0 c.loop-at.invariant.1 c.if-at-size.false).room), rw c.record_bytes-at.ensures (sym (nines_on c.args.way c.args.file.now (c.loop-at.i + 1) c.loop-at.at (along c.args.way c.args.file.now c.loop-at.at c.loop-at.i c.requires.0 c.loop-at.invariant.0 c.loop-at.invariant.1 c.if-at-size.false).room (sym (rw c.filler-nines.ensures at c.same.ensures) ∙ not-false c.same.result c.if-not-same.false)) ∙ c.loop-at.invariant.2))
+loop-at-preserved c = (ap (λ w. c.loop-at.at + w) c.record_bytes-at.ensures ∙ (along c.args.way c.args.file.now c.loop-at.at c.loop-at.i c.requires.0 c.loop-at.invariant.0 c.loop-at.invariant.1 c.if-at-size.false).next, omega (arith, c.record_bytes-at.ensures, (along c.args.way c.args.file.now c.loop-at.at c.loop-at.i c.requires.0 c.loop-at.invariant.0 c.loop-at.invariant.1 c.if-at-size.false).room), rw c.record_bytes-at.ensures (sym (nines_on c.args.way c.args.file.now (c.loop-at.i + 1) c.loop-at.at (along c.args.way c.args.file.now c.loop-at.at c.loop-at.i c.requires.0 c.loop-at.invariant.0 c.loop-at.invariant.1 c.if-at-size.false).room (sym (rw c.filler-nines.ensures at c.same.ensures) ∙ c.if-not-same.false)) ∙ c.loop-at.invariant.2))

@@ -8,7 +8,7 @@ pub returns-in-Failed : goal.returns-in-Failed
 returns-in-Failed c = (refilled_failed c.args.way c.args.st c.args.columns.now c.args.raw.now c.requires.2 c.check-tried.result c.check-tried.ensures.0 c.in-Failed.fault c.in-Failed.k c.in-Failed.is, c.requires.0)
 
 pub returns-then-not-closed : goal.returns-then-not-closed
-returns-then-not-closed c = (refilled_unclosed c.args.way c.args.st c.args.columns.now c.args.raw.now c.requires.2 c.check-tried.result c.check-tried.ensures.0 c.in_default.is (sym c.closed.ensures ∙ not-true c.closed.result c.if-not-closed.true), c.requires.0)
+returns-then-not-closed c = (refilled_unclosed c.args.way c.args.st c.args.columns.now c.args.raw.now c.requires.2 c.check-tried.result c.check-tried.ensures.0 c.in_default.is (sym c.closed.ensures ∙ c.if-not-closed.true), c.requires.0)
 
 pub returns : goal.returns
-returns c = (refilled_closed c.args.way c.args.st c.args.columns.now c.args.raw.now c.requires.2 c.check-tried.result c.check-tried.ensures.0 (sym c.closed.ensures ∙ not-false c.closed.result c.if-not-closed.false), c.check-tried.ensures.1)
+returns c = (refilled_closed c.args.way c.args.st c.args.columns.now c.args.raw.now c.requires.2 c.check-tried.result c.check-tried.ensures.0 (sym c.closed.ensures ∙ c.if-not-closed.false), c.check-tried.ensures.1)

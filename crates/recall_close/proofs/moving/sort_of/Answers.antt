@@ -16,4 +16,4 @@ pub returns-in-56 : goal.returns-in-56
 returns-in-56 c = rw c.in-56.is refl
 
 pub returns-in_default : goal.returns-in_default
-returns-in_default c = let r = c.in_default.rest in simp (ne_eqb _ _ r.0.0.0.1, ne_eqb _ _ r.0.0.1, ne_eqb _ _ r.0.1, ne_eqb _ _ r.1)
+returns-in_default c = let r = c.in_default.in_default-own.rest in simp (ne_eqb _ _ r.0.0.0.1, ne_eqb _ _ r.0.0.1, ne_eqb _ _ r.0.1, ne_eqb _ _ r.1)
