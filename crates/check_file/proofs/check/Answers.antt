@@ -17,18 +17,6 @@ use mathlib.Core.Path.{refl, sym, ◌∙◌, ap}
 use Rattle.std.proofs.Common.{rules}
 use Rattle.check_file.proofs.check.Goals as goal
 
-shared-slice-read-line-at :
-    tie.Need-shared-slice-read-line-at invariant-loop decreases-loop invariant-records decreases-records
-shared-slice-read-line-at c = omega (arith, columns_long c.before.before.before.before.before.before.before.before.before.before.before.before.before.before.args.way c.before.before.before.before.before.before.before.before.before.before.before.before.before.before.args.file.now c.before.before.before.records.at (walk c.before.before.before.before.before.before.before.before.before.before.before.before.before.before.args.way (length c.before.before.before.before.before.before.before.before.before.before.before.before.before.before.args.file.now) c.before.before.before.records.at c.before.before.before.records.sums.records (fit c.before.before.before.before.before.before.before.before.before.before.before.before.before.before.args.way (length c.before.before.before.before.before.before.before.before.before.before.before.before.before.before.args.file.now) (sym c.before.before.before.before.before.before.before.before.before.before.before.before.whole-records.ensures ∙ c.before.before.before.before.before.before.before.before.before.before.before.if1.false)).0 (fit c.before.before.before.before.before.before.before.before.before.before.before.before.before.before.args.way (length c.before.before.before.before.before.before.before.before.before.before.before.before.before.before.args.file.now) (sym c.before.before.before.before.before.before.before.before.before.before.before.before.whole-records.ensures ∙ c.before.before.before.before.before.before.before.before.before.before.before.if1.false)).1 c.before.before.before.records.invariant.1 c.before.before.before.records.invariant.2 c.before.before.if2.false).room)
-
-slice-aggregate-walk-from :
-    tie.Need-slice-aggregate-walk-from invariant-loop decreases-loop invariant-records decreases-records
-slice-aggregate-walk-from c = sym c.before.before.before.before.before.before.before.before.before.records.invariant.4
-
-slice-aggregate-count-in-row :
-    tie.Need-slice-aggregate-count-in-row invariant-loop decreases-loop invariant-records decreases-records
-slice-aggregate-count-in-row c = sym c.before.before.before.before.before.before.before.before.before.before.before.before.before.before.before.before.records.invariant.5
-
 pub returns-then-not-whole_records : goal.returns-then-not-whole_records
 returns-then-not-whole_records c = c.refused.ensures ∙ unfit c.args.way c.args.file.now (sym c.whole_records.ensures ∙ c.if-not-whole_records.true)
 
@@ -50,8 +38,14 @@ slice_bounds-rec-start c = omega arith
 pub slice_bounds-rec-end : goal.slice_bounds-rec-end
 slice_bounds-rec-end c = omega (arith, (walk c.args.way (length c.args.file.now) c.records.at c.records.sums.records (fit c.args.way (length c.args.file.now) (sym c.whole_records.ensures ∙ c.if-not-whole_records.false)).0 (fit c.args.way (length c.args.file.now) (sym c.whole_records.ensures ∙ c.if-not-whole_records.false)).1 c.records.invariant.1 c.records.invariant.2 c.if-at-size.false).room)
 
+pub bounds-rec-0 : goal.bounds-rec-0
+bounds-rec-0 c = omega (arith, columns_long c.args.way c.args.file.now c.records.at (walk c.args.way (length c.args.file.now) c.records.at c.records.sums.records (fit c.args.way (length c.args.file.now) (sym c.whole_records.ensures ∙ c.if-not-whole_records.false)).0 (fit c.args.way (length c.args.file.now) (sym c.whole_records.ensures ∙ c.if-not-whole_records.false)).1 c.records.invariant.1 c.records.invariant.2 c.if-at-size.false).room)
+
 pub said-said-requires : goal.said-said-requires
 said-said-requires c = columns_long c.args.way c.args.file.now c.records.at (walk c.args.way (length c.args.file.now) c.records.at c.records.sums.records (fit c.args.way (length c.args.file.now) (sym c.whole_records.ensures ∙ c.if-not-whole_records.false)).0 (fit c.args.way (length c.args.file.now) (sym c.whole_records.ensures ∙ c.if-not-whole_records.false)).1 c.records.invariant.1 c.records.invariant.2 c.if-at-size.false).room
+
+pub slice_bounds-walk_from-end : goal.slice_bounds-walk_from-end
+slice_bounds-walk_from-end c = sym c.records.invariant.4
 
 pub walk_from-k-requires : goal.walk_from-k-requires
 walk_from-k-requires c = (c.records.invariant.4, columns_long c.args.way c.args.file.now c.records.at (walk c.args.way (length c.args.file.now) c.records.at c.records.sums.records (fit c.args.way (length c.args.file.now) (sym c.whole_records.ensures ∙ c.if-not-whole_records.false)).0 (fit c.args.way (length c.args.file.now) (sym c.whole_records.ensures ∙ c.if-not-whole_records.false)).1 c.records.invariant.1 c.records.invariant.2 c.if-at-size.false).room, c.said-said.ensures, c.table-groups.ensures)
@@ -97,6 +91,9 @@ closed-requires c = rw c.record_bytes-wide.ensures (raw_long c.args.way c.args.f
 
 pub overflow_add-sums-then-not-closed : goal.overflow_add-sums-then-not-closed
 overflow_add-sums-then-not-closed c = record { fits = omega (arith, (walk c.args.way (length c.args.file.now) c.records.at c.records.sums.records (fit c.args.way (length c.args.file.now) (sym c.whole_records.ensures ∙ c.if-not-whole_records.false)).0 (fit c.args.way (length c.args.file.now) (sym c.whole_records.ensures ∙ c.if-not-whole_records.false)).1 c.records.invariant.1 c.records.invariant.2 c.if-at-size.false).few) }
+
+pub slice_bounds-count_in_row-end : goal.slice_bounds-count_in_row-end
+slice_bounds-count_in_row-end c = sym c.records.invariant.5
 
 pub count_in_row-requires : goal.count_in_row-requires
 count_in_row-requires c = (c.records.invariant.5, (λ k. omega (arith, c.records.invariant.0.rows k, c.records.invariant.0.sums.few)), (said_small (columns_at c.args.file.now c.records.at) c.said-said.result c.said-said.ensures).1)
