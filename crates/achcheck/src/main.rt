@@ -2,16 +2,16 @@
 #![tactic(auto)]
 
 use layout::Way;
-use libc::STDIN_FILENO;
+use std::io;
 
-fn main() {
-    let mut buffer = io::large_buffer();
-    let n = io::read_full(STDIN_FILENO, &mut buffer);
+fn main(rt: HostRuntime) -> io::Result<()> {
+    let mut buffer = [0u8; 65536];
+    let mut input = rt.stdin();
+    let n = print_line::read_full(&mut input, &mut buffer)?;
     if 64860 < n {
-        print_line::print_refusal(23, 0, 0);
-        return;
+        return print_line::print_refusal(&rt, 23, 0, 0);
     }
     // 64,860 bytes hold no more than 229 batches
     let mut rows = [0u64; 458];
-    print_line::print_checked(ach::check(Way::Plain, &buffer[..n], &mut rows));
+    print_line::print_checked(&rt, ach::check(Way::Plain, &buffer[..n], &mut rows))
 }

@@ -1,30 +1,21 @@
 // Runs the vectors: checks each file that the arguments name, a line each.
 #![tactic(auto)]
 
-fn check_file(index: usize) {
-    let mut path = io::buffer();
-    let length = os::arg(index, &mut path);
-    if os::errno() != 0 {
-        os::fail(b"name");
-        return;
-    }
-    let fd = os::open_read(&path[..length]);
-    if fd < 0 {
-        os::fail(&path[..length]);
-        return;
-    }
-    let mut buffer = io::large_buffer();
-    let n = io::read_full(fd, &mut buffer);
-    libc::close(fd);
+use std::io;
+use std::rt::Files;
+use std::{env, fs};
+
+fn check_file(rt: &(impl Files + Print), path: &str) -> io::Result<()> {
+    let mut file = fs::open(rt, path)?;
+    let mut buffer = [0u8; 65536];
+    let n = print_line::read_full(&mut file, &mut buffer)?;
     let mut rows = [0u64; 458];
-    print_line::print_checked(ach::check(layout::Way::Plain, &buffer[..n], &mut rows));
+    print_line::print_checked(rt, ach::check(layout::Way::Plain, &buffer[..n], &mut rows))
 }
 
-fn main() {
-    let count = os::arg_count();
-    let mut index = 1;
-    while index < count {
-        check_file(index);
-        index += 1;
+fn main(rt: HostRuntime) -> io::Result<()> {
+    for path in env::args(&rt)?.skip(1) {
+        check_file(&rt, path.as_str())?;
     }
+    Ok(())
 }

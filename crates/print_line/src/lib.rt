@@ -1,40 +1,44 @@
-// The check program's line: `OK batches entries addenda debit credit`, or `NO number record field`.
+// What the programs share: a file read into a buffer, and the check program's line:
+// `OK batches entries addenda debit credit`, or `NO number record field`.
 #![tactic(auto)]
 
+ghost use Rattle.std.specs.Prelude.{◌≤◌, length, IfOk};
+
 use layout::{Answer, Checked};
-use libc::STDOUT_FILENO;
+use std::io;
+use std::io::Read;
 
-fn print_number(n: u64) {
-    io::write_all(STDOUT_FILENO, b" ");
-    io::print_decimal(STDOUT_FILENO, n);
+// Reads until the buffer is full or the input ends: how many bytes stand at its front.
+pub fn read_full<R: Read>(from: &mut R, buffer: &mut [u8]) -> io::Result<usize>
+    ensures { IfOk result (λ n. n ≤ length buffer.old) }
+{
+    let mut done = 0;
+    while done < buffer.len() {
+        let n = from.read(&mut buffer[done..])?;
+        if n == 0 {
+            break;
+        }
+        done += n;
+    }
+    Ok(done)
 }
 
-pub fn print_refusal(number: u64, record: u64, field: u64) {
-    io::write_all(STDOUT_FILENO, b"NO");
-    print_number(number);
-    print_number(record);
-    print_number(field);
-    io::write_all(STDOUT_FILENO, b"\n");
+pub fn print_refusal(rt: &impl Print, number: u64, record: u64, field: u64) -> io::Result<()> {
+    println!(rt; "NO {number} {record} {field}")
 }
 
-fn print_acceptance(c: Checked) {
-    io::write_all(STDOUT_FILENO, b"OK");
-    print_number(c.batches);
-    print_number(c.entries);
-    print_number(c.addenda);
-    print_number(c.debit);
-    print_number(c.credit);
-    io::write_all(STDOUT_FILENO, b"\n");
+fn print_acceptance(rt: &impl Print, c: Checked) -> io::Result<()> {
+    println!(rt; "OK {} {} {} {} {}", c.batches, c.entries, c.addenda, c.debit, c.credit)
 }
 
-pub fn print_checked(c: Checked) {
+pub fn print_checked(rt: &impl Print, c: Checked) -> io::Result<()> {
     let answer = c.answer;
     match answer {
-        Answer::Granted => print_acceptance(c),
+        Answer::Granted => print_acceptance(rt, c),
         Answer::Refused(r) => {
             let fault = r.fault;
             let record = r.record;
-            print_refusal(layout::number_of(fault), record.0, r.field)
+            print_refusal(rt, layout::number_of(fault), record.0, r.field)
         }
     }
 }

@@ -10,6 +10,7 @@ use Rattle.layout.specs.Fields.{rows_of}
 use Rattle.check_alone.specs.declared.Mark.{Mark}
 use Rattle.check_across.specs.declared.Sums.{Sums}
 use Rattle.check_sums.specs.Sums.{start, no_sums, add_record, add_batch}
+use Rattle.check_across.specs.Across.{batch_number}
 use Rattle.view.specs.View.{Entry, Batch, View, batch_record, records_of, records_in, sum_over}
 use Rattle.view.specs.Sized.{All, SizedBatch, Sized}
 use Rattle.view.specs.Keeps.{Right, EntriesKeep, BatchesKeep, Keeps}
@@ -49,7 +50,7 @@ some (x ∷ xs) l = tt
 
 all_some : (number : ℕ) (bs : List Batch) → BatchesKeep number bs → All (λ b. Some ⊥ b.entries) bs
 all_some number [] k = tt
-all_some number (b ∷ bs) k = (some b.entries k.0.nonempty, all_some _ bs k.1)
+all_some number (b ∷ bs) k = (some b.entries k.0.nonempty, all_some (batch_number (batch_record b)) bs k.1)
 
 -- the records of a view that keeps the rules are accepted
 pub records_accepted : (v : View) → Sized v → Keeps v → bare_run start (records_of v) ≡ granted_of v

@@ -126,7 +126,10 @@ batch_front s b rest l k t = (
     sized = (l, t.sized);
     keeps = (k, subst (λ n. BatchesKeep n t.bs) (batch_number_lem s b) t.keeps);
     limited = t.limited;
-    form = rw t.form (simp append_assoc);
+    form =
+        let es = entries_records b.entries in
+        let c = batch_control_record b ∷ [] in
+        rw t.form (ap (λ x. batch_record b ∷ x) (sym (append_assoc es c _) ∙ sym (append_assoc (es ++ c) (batches_records t.bs) _)));
   },
   omega arith,
 )

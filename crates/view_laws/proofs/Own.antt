@@ -19,10 +19,10 @@ use Rattle.layout.specs.declared.Fault.{Fault}
 use Rattle.check_alone.specs.declared.Mark.{Mark}
 use Rattle.check_alone.specs.Kinds.{need}
 use Rattle.check_codes.specs.Codes.{code_of, code_row, known, allowed}
-use Rattle.check_across.specs.Across.{code_rule, batch_class, class_takes}
+use Rattle.check_across.specs.Across.{code_rule, batch_class, batch_number, class_takes, entry_trace}
 use Rattle.check_sums.specs.Sums.{add_to_row}
 use Rattle.check_record.specs.Record.{checked_of, columns_in}
-use Rattle.view.specs.View.{Entry, Batch, View, sum_over, code_in, amount_of, debit_of, credit_of, entries_of, records_of, file_of, view_of}
+use Rattle.view.specs.View.{Entry, Batch, View, batch_record, entry_record, records_in, sum_over, code_in, amount_of, debit_of, credit_of, entries_of, records_of, file_of, view_of}
 use Rattle.view.specs.Table.{addenda_of, view_of_table, table_of}
 use Rattle.view.specs.Sized.{All, SizedBatch, Sized}
 use Rattle.view.specs.Keeps.{EntriesKeep, BatchesKeep, Keeps, codes, count_by, cents_by}
@@ -122,11 +122,11 @@ code_known h p e =
 
 entries_known : (h : List ℕ) (n t : ℕ) (es : List Entry) → EntriesKeep h n t es → All (λ e. known (code_of (code_in e)) ≡ true) es
 entries_known h n t [] k = tt
-entries_known h n t (e ∷ es) k = (code_known h _ k.0.fields.1.0, entries_known h _ _ es k.1)
+entries_known h n t (e ∷ es) k = (code_known h _ k.0.fields.1.0, entries_known h (n + records_in e) (entry_trace (entry_record e)) es k.1)
 
 batches_known : (number : ℕ) (bs : List Batch) → BatchesKeep number bs → All (λ e. known (code_of (code_in e)) ≡ true) (entries_in bs)
 batches_known number [] k = tt
-batches_known number (b ∷ bs) k = all_append _ b.entries (entries_in bs) (entries_known _ 0 0 b.entries k.0.entries) (batches_known _ bs k.1)
+batches_known number (b ∷ bs) k = all_append _ b.entries (entries_in bs) (entries_known _ 0 0 b.entries k.0.entries) (batches_known (batch_number (batch_record b)) bs k.1)
 
 -- ---- the rows behind entries
 

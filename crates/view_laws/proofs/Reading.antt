@@ -31,7 +31,10 @@ read_entries : (es : List Entry) → All SizedEntry es → (row : List ℕ) (bs 
 read_entries [] a row bs = refl
 read_entries (e ∷ es) a row bs =
     let h = a.0 in
-    rw (foldr-append, read_entries es a.1 row bs, read_addenda e h.long e.addenda h.texts row bs es, (entry_fields e h.long).whole)
+    let rest = foldr (λ e rs. entry_records e ++ rs) [] es in
+    foldr-append gather (reading row bs [] []) (entry_records e) rest
+    ∙ ap (λ g. foldr gather g (entry_records e)) (read_entries es a.1 row bs)
+    ∙ rw (read_addenda e h.long e.addenda h.texts row bs es, (entry_fields e h.long).whole) refl
 
 -- batches
 read_batches : (bs : List Batch) → All SizedBatch bs → (row : List ℕ)
@@ -41,7 +44,10 @@ read_batches (b ∷ bs) a row =
     let h = a.0 in
     let f = batch_fields b h.long in
     let es = foldr (λ e rs. entry_records e ++ rs) [] b.entries in
-    rw (foldr-append, read_batches bs a.1 row, foldr-append gather (reading row bs [] []) es (batch_control_record b ∷ []), (batch_control_fields b h.long).type, read_entries b.entries h.each row bs, f.type, f.front, f.back, take-append-drop)
+    let rest = foldr (λ b rs. batch_records b ++ rs) [] bs in
+    foldr-append gather (reading row [] [] []) (batch_records b) rest
+    ∙ ap (λ g. foldr gather g (batch_records b)) (read_batches bs a.1 row)
+    ∙ rw (foldr-append gather (reading row bs [] []) es (batch_control_record b ∷ []), (batch_control_fields b h.long).type, read_entries b.entries h.each row bs, f.type, f.front, f.back, take-append-drop)
 
 -- filler says nothing
 read_fillers : (n : ℕ) → foldr gather nothing (replicate n filler_record) ≡ nothing
