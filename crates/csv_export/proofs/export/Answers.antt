@@ -26,4 +26,4 @@ pub put_lines-requires : goal.put_lines-requires
 put_lines-requires c = (omega (arith, size_by_lem c.args.table.now c.sections-s.result c.sections-s.ensures (right c.args.table.now (shape_right c.args.table.now (sym c.judge.ensures ∙ c.in_default.is))).size, c.sections-s.ensures.entryrows), record { fits = omega (arith, c.lines_size-size.ensures.0, c.if-lines-size.false) })
 
 pub returns : goal.returns
-returns c = granted (writable c.args.table.now) (exported c.args.table.now) c.args.lines.now (sym c.judge.ensures ∙ c.in_default.is) c.lines_size-size.result c.put_lines.new.1.1.1.0 (c.lines_size-size.ensures.0 ∙ ap length (lines_exported c.args.table.now c.sections-s.result c.sections-s.ensures)) (omega (arith, c.lines_size-size.ensures.0, ap length (lines_exported c.args.table.now c.sections-s.result c.sections-s.ensures), c.if-lines-size.false)) (export_stands c.args.table.now c.sections-s.result c.sections-s.ensures c.args.lines.now c.put_lines.new.1.1.1.0 c.put_lines.result (omega (arith, c.lines_size-size.ensures.0, ap length (lines_exported c.args.table.now c.sections-s.result c.sections-s.ensures), c.if-lines-size.false)) c.put_lines.ensures)
+returns c = granted (writable c.args.table.now) (exported c.args.table.now) c.args.lines.now (sym c.judge.ensures ∙ c.in_default.is) c.lines_size-size.result c.put_lines.new.lines (c.lines_size-size.ensures.0 ∙ ap length (lines_exported c.args.table.now c.sections-s.result c.sections-s.ensures)) (omega (arith, c.lines_size-size.ensures.0, ap length (lines_exported c.args.table.now c.sections-s.result c.sections-s.ensures), c.if-lines-size.false)) (export_stands c.args.table.now c.sections-s.result c.sections-s.ensures c.args.lines.now c.put_lines.new.lines c.put_lines.result (omega (arith, c.lines_size-size.ensures.0, ap length (lines_exported c.args.table.now c.sections-s.result c.sections-s.ensures), c.if-lines-size.false)) c.put_lines.ensures)

@@ -21,7 +21,7 @@ pub any_left-requires : goal.any_left-requires
 any_left-requires c = (c.mark.ensures.0, omega (arith, told_few c.args.way c.args.file.now c.args.checked c.requires.0))
 
 pub returns-then-not-any_left : goal.returns-then-not-any_left
-returns-then-not-any_left c = (c.refused-then-not-any_left.ensures ∙ asked_none c.args.way c.args.file.now c.args.entries.now c.args.room (accepted c.args.way c.args.file.now c.args.checked c.requires.0) (sym (c.mark.ensures.1 (view_of c.args.way c.args.file.now) (entries_told c.args.way c.args.file.now c.args.checked c.requires.0)) ∙ c.if-not-mark.false) (some_without c.mark.new.0 c.args.entries.now (c.mark.ensures.2 (c.if-not-mark.false)) (view_of c.args.way c.args.file.now) c.args.checked.entries (entries_told c.args.way c.args.file.now c.args.checked c.requires.0) ∙ sym c.any_left.ensures ∙ c.if-not-any_left.true), c.mark.ensures.0, λ e. not_granted (sym c.refused-then-not-any_left.ensures ∙ e))
+returns-then-not-any_left c = (c.refused-then-not-any_left.ensures ∙ asked_none c.args.way c.args.file.now c.args.entries.now c.args.room (accepted c.args.way c.args.file.now c.args.checked c.requires.0) (sym (c.mark.ensures.1 (view_of c.args.way c.args.file.now) (entries_told c.args.way c.args.file.now c.args.checked c.requires.0)) ∙ c.if-not-mark.false) (some_without c.mark.new.flags c.args.entries.now (c.mark.ensures.2 (c.if-not-mark.false)) (view_of c.args.way c.args.file.now) c.args.checked.entries (entries_told c.args.way c.args.file.now c.args.checked c.requires.0) ∙ sym c.any_left.ensures ∙ c.if-not-any_left.true), c.mark.ensures.0, λ e. not_granted (sym c.refused-then-not-any_left.ensures ∙ e))
 
 pub records_before-requires : goal.records_before-requires
 records_before-requires c = told_few c.args.way c.args.file.now c.args.checked c.requires.0
@@ -33,7 +33,7 @@ pub overflow_mul-left : goal.overflow_mul-left
 overflow_mul-left c = record { fits = omega (arith, c.batches_left-left.ensures.1) }
 
 pub returns-then-room-left : goal.returns-then-room-left
-returns-then-room-left c = (c.refused-then-room-left.ensures ∙ asked_short c.args.way c.args.file.now c.args.entries.now c.args.room (accepted c.args.way c.args.file.now c.args.checked c.requires.0) (sym (c.mark.ensures.1 (view_of c.args.way c.args.file.now) (entries_told c.args.way c.args.file.now c.args.checked c.requires.0)) ∙ c.if-not-mark.false) (some_without c.mark.new.0 c.args.entries.now (c.mark.ensures.2 (c.if-not-mark.false)) (view_of c.args.way c.args.file.now) c.args.checked.entries (entries_told c.args.way c.args.file.now c.args.checked c.requires.0) ∙ sym c.any_left.ensures ∙ c.if-not-any_left.false) c.batches_left-left.result (c.batches_left-left.ensures.0 ∙ counted_whole c.mark.new.0 c.args.entries.now (c.mark.ensures.2 (c.if-not-mark.false)) (view_of c.args.way c.args.file.now)) c.if-room-left.true, c.mark.ensures.0, λ e. not_granted (sym c.refused-then-room-left.ensures ∙ e))
+returns-then-room-left c = (c.refused-then-room-left.ensures ∙ asked_short c.args.way c.args.file.now c.args.entries.now c.args.room (accepted c.args.way c.args.file.now c.args.checked c.requires.0) (sym (c.mark.ensures.1 (view_of c.args.way c.args.file.now) (entries_told c.args.way c.args.file.now c.args.checked c.requires.0)) ∙ c.if-not-mark.false) (some_without c.mark.new.flags c.args.entries.now (c.mark.ensures.2 (c.if-not-mark.false)) (view_of c.args.way c.args.file.now) c.args.checked.entries (entries_told c.args.way c.args.file.now c.args.checked c.requires.0) ∙ sym c.any_left.ensures ∙ c.if-not-any_left.false) c.batches_left-left.result (c.batches_left-left.ensures.0 ∙ counted_whole c.mark.new.flags c.args.entries.now (c.mark.ensures.2 (c.if-not-mark.false)) (view_of c.args.way c.args.file.now)) c.if-room-left.true, c.mark.ensures.0, λ e. not_granted (sym c.refused-then-room-left.ensures ∙ e))
 
 pub returns : goal.returns
-returns c = (asked_granted c.args.way c.args.file.now c.args.entries.now c.args.room (accepted c.args.way c.args.file.now c.args.checked c.requires.0) (sym (c.mark.ensures.1 (view_of c.args.way c.args.file.now) (entries_told c.args.way c.args.file.now c.args.checked c.requires.0)) ∙ c.if-not-mark.false) (some_without c.mark.new.0 c.args.entries.now (c.mark.ensures.2 (c.if-not-mark.false)) (view_of c.args.way c.args.file.now) c.args.checked.entries (entries_told c.args.way c.args.file.now c.args.checked c.requires.0) ∙ sym c.any_left.ensures ∙ c.if-not-any_left.false) c.batches_left-left.result (c.batches_left-left.ensures.0 ∙ counted_whole c.mark.new.0 c.args.entries.now (c.mark.ensures.2 (c.if-not-mark.false)) (view_of c.args.way c.args.file.now)) c.if-room-left.false, c.mark.ensures.0, λ e. (c.mark.ensures.2 (c.if-not-mark.false)))
+returns c = (asked_granted c.args.way c.args.file.now c.args.entries.now c.args.room (accepted c.args.way c.args.file.now c.args.checked c.requires.0) (sym (c.mark.ensures.1 (view_of c.args.way c.args.file.now) (entries_told c.args.way c.args.file.now c.args.checked c.requires.0)) ∙ c.if-not-mark.false) (some_without c.mark.new.flags c.args.entries.now (c.mark.ensures.2 (c.if-not-mark.false)) (view_of c.args.way c.args.file.now) c.args.checked.entries (entries_told c.args.way c.args.file.now c.args.checked c.requires.0) ∙ sym c.any_left.ensures ∙ c.if-not-any_left.false) c.batches_left-left.result (c.batches_left-left.ensures.0 ∙ counted_whole c.mark.new.flags c.args.entries.now (c.mark.ensures.2 (c.if-not-mark.false)) (view_of c.args.way c.args.file.now)) c.if-room-left.false, c.mark.ensures.0, λ e. (c.mark.ensures.2 (c.if-not-mark.false)))

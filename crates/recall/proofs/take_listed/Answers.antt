@@ -15,10 +15,10 @@ pub shorten-size-requires : goal.shorten-size-requires
 shorten-size-requires c = (rw c.records_before.ensures (body_told c.args.way c.args.file.now c.args.checked c.requires.0), c.judge-answer.ensures.1)
 
 pub slice_bounds-fill-end : goal.slice_bounds-fill-end
-slice_bounds-fill-end c = omega (arith, front_fits c.args.way c.judge-answer.new.1.1.1.1.0 c.args.file.now c.args.entries.now c.shorten-size.new.1.0 c.shorten-size.result (c.judge-answer.ensures.2 c.in_default.is) c.shorten-size.ensures.0 c.shorten-size.ensures.1)
+slice_bounds-fill-end c = omega (arith, front_fits c.args.way c.judge-answer.new.flags c.args.file.now c.args.entries.now c.shorten-size.new.file c.shorten-size.result (c.judge-answer.ensures.2 c.in_default.is) c.shorten-size.ensures.0 c.shorten-size.ensures.1)
 
 pub fill-requires : goal.fill-requires
-fill-requires c = (new_accepted c.args.way c.args.file.now c.args.entries.now c.args.rows.now (sym c.judge-answer.ensures.0 ∙ c.in_default.is) _ (front_new c.args.way c.judge-answer.new.1.1.1.1.0 c.args.file.now c.args.entries.now c.shorten-size.new.1.0 c.shorten-size.result (c.judge-answer.ensures.2 c.in_default.is) c.shorten-size.ensures.0 c.shorten-size.ensures.1), new_room c.args.way c.args.file.now c.args.entries.now c.args.rows.now (sym c.judge-answer.ensures.0 ∙ c.in_default.is) _ (front_new c.args.way c.judge-answer.new.1.1.1.1.0 c.args.file.now c.args.entries.now c.shorten-size.new.1.0 c.shorten-size.result (c.judge-answer.ensures.2 c.in_default.is) c.shorten-size.ensures.0 c.shorten-size.ensures.1))
+fill-requires c = (new_accepted c.args.way c.args.file.now c.args.entries.now c.args.rows.now (sym c.judge-answer.ensures.0 ∙ c.in_default.is) _ (front_new c.args.way c.judge-answer.new.flags c.args.file.now c.args.entries.now c.shorten-size.new.file c.shorten-size.result (c.judge-answer.ensures.2 c.in_default.is) c.shorten-size.ensures.0 c.shorten-size.ensures.1), new_room c.args.way c.args.file.now c.args.entries.now c.args.rows.now (sym c.judge-answer.ensures.0 ∙ c.in_default.is) _ (front_new c.args.way c.judge-answer.new.flags c.args.file.now c.args.entries.now c.shorten-size.new.file c.shorten-size.result (c.judge-answer.ensures.2 c.in_default.is) c.shorten-size.ensures.0 c.shorten-size.ensures.1))
 
 pub returns : goal.returns
-returns c = let o = out_granted c.args.way c.args.file.now c.args.entries.now c.args.rows.now (sym c.judge-answer.ensures.0 ∙ c.in_default.is) _ (front_new c.args.way c.judge-answer.new.1.1.1.1.0 c.args.file.now c.args.entries.now c.shorten-size.new.1.0 c.shorten-size.result (c.judge-answer.ensures.2 c.in_default.is) c.shorten-size.ensures.0 c.shorten-size.ensures.1) c.shorten-size.result c.shorten-size.new.1.0 c.fill.new.1.1.0 (front_long c.args.way c.judge-answer.new.1.1.1.1.0 c.args.file.now c.args.entries.now c.shorten-size.new.1.0 c.shorten-size.result (c.judge-answer.ensures.2 c.in_default.is) c.shorten-size.ensures.0 c.shorten-size.ensures.1) (front_blanks c.args.way c.judge-answer.new.1.1.1.1.0 c.args.file.now c.args.entries.now c.shorten-size.new.1.0 c.shorten-size.result (c.judge-answer.ensures.2 c.in_default.is) c.shorten-size.ensures.0 c.shorten-size.ensures.1) c.fill.ensures in (o.0, o.1, o.2, search rules, search rules)
+returns c = let o = out_granted c.args.way c.args.file.now c.args.entries.now c.args.rows.now (sym c.judge-answer.ensures.0 ∙ c.in_default.is) _ (front_new c.args.way c.judge-answer.new.flags c.args.file.now c.args.entries.now c.shorten-size.new.file c.shorten-size.result (c.judge-answer.ensures.2 c.in_default.is) c.shorten-size.ensures.0 c.shorten-size.ensures.1) c.shorten-size.result c.shorten-size.new.file c.fill.new.rows (front_long c.args.way c.judge-answer.new.flags c.args.file.now c.args.entries.now c.shorten-size.new.file c.shorten-size.result (c.judge-answer.ensures.2 c.in_default.is) c.shorten-size.ensures.0 c.shorten-size.ensures.1) (front_blanks c.args.way c.judge-answer.new.flags c.args.file.now c.args.entries.now c.shorten-size.new.file c.shorten-size.result (c.judge-answer.ensures.2 c.in_default.is) c.shorten-size.ensures.0 c.shorten-size.ensures.1) c.fill.ensures in (o.0, o.1, o.2, search rules, search rules)

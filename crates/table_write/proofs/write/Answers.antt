@@ -25,4 +25,4 @@ pub put_formed-requires : goal.put_formed-requires
 put_formed-requires c = (shape_right c.args.table.now (sym c.judge.ensures ∙ c.in_default.is), not_many c.args.table.now (sym c.judge.ensures ∙ c.in_default.is), file_right c.args.table.now (sym c.judge.ensures ∙ c.in_default.is), omega (arith, ap₂ (λ x y. x * y) c.record_bytes.ensures c.records_in.ensures.0 ∙ sym (formed_length c.args.way c.args.table.now c.args.file.now (sym c.judge.ensures ∙ c.in_default.is)), c.if-file-size.false))
 
 pub returns : goal.returns
-returns c = write_gives c.args.way c.args.table.now c.args.file.now (granted (writable c.args.table.now) (formed c.args.way c.args.table.now) c.args.file.now (sym c.judge.ensures ∙ c.in_default.is) (c.record_bytes.result * c.records_in.result) c.put_formed.new.1.1.0 (ap₂ (λ x y. x * y) c.record_bytes.ensures c.records_in.ensures.0 ∙ sym (formed_length c.args.way c.args.table.now c.args.file.now (sym c.judge.ensures ∙ c.in_default.is))) (omega (arith, ap₂ (λ x y. x * y) c.record_bytes.ensures c.records_in.ensures.0 ∙ sym (formed_length c.args.way c.args.table.now c.args.file.now (sym c.judge.ensures ∙ c.in_default.is)), c.if-file-size.false)) c.put_formed.ensures)
+returns c = write_gives c.args.way c.args.table.now c.args.file.now (granted (writable c.args.table.now) (formed c.args.way c.args.table.now) c.args.file.now (sym c.judge.ensures ∙ c.in_default.is) (c.record_bytes.result * c.records_in.result) c.put_formed.new.file (ap₂ (λ x y. x * y) c.record_bytes.ensures c.records_in.ensures.0 ∙ sym (formed_length c.args.way c.args.table.now c.args.file.now (sym c.judge.ensures ∙ c.in_default.is))) (omega (arith, ap₂ (λ x y. x * y) c.record_bytes.ensures c.records_in.ensures.0 ∙ sym (formed_length c.args.way c.args.table.now c.args.file.now (sym c.judge.ensures ∙ c.in_default.is)), c.if-file-size.false)) c.put_formed.ensures)

@@ -34,7 +34,7 @@ pub overflow_add-wide-3 : goal.overflow_add-wide-3
 overflow_add-wide-3 c = rw c.record_bytes-wide.ensures (record { fits = omega (arith, last_in c.args.way (length c.args.file.now) c.args.places c.args.side (c.requires)) })
 
 pub put_at-requires-3 : goal.put_at-requires-3
-put_at-requires-3 c = rw c.record_bytes-wide.ensures (omega (arith, last_in c.args.way (length c.args.file.now) c.args.places c.args.side (c.requires), ap length c.put_at-2.ensures, ap length c.put_at.ensures, length-sets c.args.file.now (c.record_bytes-wide.result * c.args.places.entry + 29) (render 10 c.args.amount), length-sets c.put_at.new.0 (c.record_bytes-wide.result * c.args.places.control + c.args.side.batchat) (render 12 c.args.batch)))
+put_at-requires-3 c = rw c.record_bytes-wide.ensures (omega (arith, last_in c.args.way (length c.args.file.now) c.args.places c.args.side (c.requires), ap length c.put_at-2.ensures, ap length c.put_at.ensures, length-sets c.args.file.now (c.record_bytes-wide.result * c.args.places.entry + 29) (render 10 c.args.amount), length-sets c.put_at.new.file (c.record_bytes-wide.result * c.args.places.control + c.args.side.batchat) (render 12 c.args.batch)))
 
 pub returns : goal.returns
 returns c = rw (c.put_at-3.ensures, c.put_at-2.ensures, c.put_at.ensures, c.record_bytes-wide.ensures) refl

@@ -3,4 +3,4 @@ use Rattle.std.proofs.Common.{rules}
 use Rattle.alter.proofs.sides.put_at.Goals as goal
 
 pub returns : goal.returns
-returns c = put_there c.args.file.now c.args.at c.args.width c.args.n c.put_number.new.0 (c.requires) c.put_number.ensures
+returns c = put_there c.args.file.now c.args.at c.args.width c.args.n c.put_number.new.s (c.requires) c.put_number.ensures

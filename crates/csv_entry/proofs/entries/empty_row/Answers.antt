@@ -3,4 +3,4 @@ use Rattle.std.proofs.Common.{rules}
 use Rattle.csv_entry.proofs.entries.empty_row.Goals as goal
 
 pub returns : goal.returns
-returns c = empty_made c.args.bank.now c.put_number.new.0 c.args.number c.copy_into.new.0 (c.requires) c.copy_into.ensures c.put_number.ensures
+returns c = empty_made c.args.bank.now c.put_number.new.s c.args.number c.copy_into.new.to (c.requires) c.copy_into.ensures c.put_number.ensures

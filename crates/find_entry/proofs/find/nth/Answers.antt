@@ -13,6 +13,7 @@ use Prim.Native.Nat.{◌+◌, ◌-◌, ◌*◌, ◌/◌, ◌≤◌}
 use mathlib.Core.Path.{refl}
 use Rattle.std.proofs.Common.{rules}
 use Rattle.find_entry.proofs.find.nth.Goals as goal
+use Rattle.find_entry.proofs.find.nth.Goals.{then-file-at+else-left-eq0, else-file-at}
 
 pub nonzero_div-count : goal.nonzero_div-count
 nonzero_div-count c = rw c.record_bytes-wide.ensures (some_bytes c.args.way)
@@ -39,7 +40,16 @@ pub loop-i-smaller : goal.loop-i-smaller
 loop-i-smaller c = omega (arith, (rw c.record_bytes-wide.ensures at c.loop-i-test.true))
 
 pub loop-i-preserved : goal.loop-i-preserved
-loop-i-preserved c = (omega (arith, (rw c.record_bytes-wide.ensures at c.loop-i-test.true)), ⊎_elim (λ w. rw w.2 (omega (arith, c.loop-i.invariant.1, nth_before c.args.way c.args.file.now c.loop-i.i c.args.byte c.loop-i.left (rw c.record_bytes-wide.ensures at c.loop-i-test.true) (rw c.loop-i.invariant.2 at w.0.taken) w.1.left))) (λ w. rw w.1 (omega (arith, c.loop-i.invariant.1, nth_other c.args.way c.args.file.now c.loop-i.i c.args.byte c.loop-i.left (rw c.record_bytes-wide.ensures at c.loop-i-test.true) (rw c.loop-i.invariant.2 at w.0.left)))) c.if-file-at.branch, rw (c.record_bytes-at.ensures, c.loop-i.invariant.2) (on c.args.way c.loop-i.i))
+loop-i-preserved c =
+    let here = rw c.record_bytes-wide.ensures at c.loop-i-test.true in
+    (
+      omega (arith, here),
+      elim c.if-file-at.branch [
+        then-file-at+else-left-eq0 w ↦ rw w.left-is (omega (arith, c.loop-i.invariant.1, nth_before c.args.way c.args.file.now c.loop-i.i c.args.byte c.loop-i.left here (rw c.loop-i.invariant.2 at w.if-file-at.true) w.if-left-eq0.false))
+      | else-file-at w ↦ rw w.left-is (omega (arith, c.loop-i.invariant.1, nth_other c.args.way c.args.file.now c.loop-i.i c.args.byte c.loop-i.left here (rw c.loop-i.invariant.2 at w.if-file-at.false)))
+      ],
+      rw (c.record_bytes-at.ensures, c.loop-i.invariant.2) (on c.args.way c.loop-i.i),
+    )
 
 pub returns : goal.returns
 returns c = omega (arith, c.loop-i.invariant.1, nth_end c.args.way c.args.file.now c.loop-i.i c.args.byte c.loop-i.left (rw c.record_bytes-wide.ensures at c.loop-i-test.false))

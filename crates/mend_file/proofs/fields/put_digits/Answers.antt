@@ -12,4 +12,4 @@ pub slice_bounds-put_number-end : goal.slice_bounds-put_number-end
 slice_bounds-put_number-end c = omega (arith, c.requires.fits, length_render c.args.wide c.args.n)
 
 pub returns : goal.returns
-returns c = digits_put c.args.list.now c.put_number.new.0 c.args.wide c.args.n c.args.to _ refl c.requires.fits c.put_number.ensures
+returns c = digits_put c.args.list.now c.put_number.new.s c.args.wide c.args.n c.args.to _ refl c.requires.fits c.put_number.ensures

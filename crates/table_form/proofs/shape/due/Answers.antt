@@ -9,6 +9,7 @@ use native.Mathlib.Omega.{arith}
 use Prim.Native.Nat.{◌+◌, ◌*◌, ◌≤◌}
 use Rattle.std.proofs.Common.{rules}
 use Rattle.table_form.proofs.shape.due.Goals as goal
+use Rattle.table_form.proofs.shape.due.Goals.{then-table-at-eq49, else-table-at-eq49}
 
 pub loop-left-init : goal.loop-left-init
 loop-left-init c = (c.requires, omega arith, omega arith)
@@ -33,7 +34,14 @@ loop-left-smaller c = omega arith
 
 pub loop-left-preserved : goal.loop-left-preserved
 loop-left-preserved c = let step = sum_first addenda_due 93 c.loop-left.left c.loop-left.at c.args.table.now c.loop-left-test.true in
-    (omega arith, ⊎_elim (λ w. omega arith) (λ w. omega arith) c.if-table-at-eq49.branch, ⊎_elim (λ w. omega (arith, step, due_yes c.args.table.now c.loop-left.at w.0.taken, c.loop-left.invariant.2)) (λ w. omega (arith, step, due_no c.args.table.now c.loop-left.at w.0.left, c.loop-left.invariant.2)) c.if-table-at-eq49.branch)
+    (
+      omega arith,
+      elim c.if-table-at-eq49.branch [ then-table-at-eq49 w ↦ omega arith | else-table-at-eq49 w ↦ omega arith ],
+      elim c.if-table-at-eq49.branch [
+        then-table-at-eq49 w ↦ omega (arith, step, due_yes c.args.table.now c.loop-left.at w.if-table-at-eq49.true, c.loop-left.invariant.2)
+      | else-table-at-eq49 w ↦ omega (arith, step, due_no c.args.table.now c.loop-left.at w.if-table-at-eq49.false, c.loop-left.invariant.2)
+      ],
+    )
 
 pub returns : goal.returns
 returns c = omega (arith, sum_none addenda_due 93 c.loop-left.left c.loop-left.at c.args.table.now c.loop-left-test.false, c.loop-left.invariant.2)
