@@ -8,10 +8,10 @@ use Rattle.std.proofs.Common.{rules}
 use Rattle.recall_close.proofs.moving.begin_batch.Goals as goal
 
 pub returns-then-not-w : goal.returns-then-not-w
-returns-then-not-w c = rw (c.if-not-w.true) (refl, put_none c.args.way c.args.file.now c.args.w.sums.records, rw (c.if-not-w.true) at c.requires.0)
+returns-then-not-w c = rw (not-true _ c.if-not-w.true) (refl, put_none c.args.way c.args.file.now c.args.w.sums.records, rw (not-true _ c.if-not-w.true) at c.requires.0)
 
 pub put-requires : goal.put-requires
 put-requires c = (room_less _ _ _ _ c.requires.0, c.requires.1)
 
 pub returns : goal.returns
-returns c = rw (c.if-not-w.false) (c.put.ensures.0, c.put.ensures.2, room_on c.args.way c.args.file.now _ c.args.w.sums _ Line.BatchHeader c.args.w.header (rw (c.if-not-w.false) at c.requires.0) c.put.ensures.0 c.put.ensures.1 (ap length c.put.ensures.2 ∙ put_length c.args.way c.args.file.now c.args.w.sums.records (c.args.w.header ∷ [])))
+returns c = rw (not-false _ c.if-not-w.false) (c.put.ensures.0, c.put.ensures.2, room_on c.args.way c.args.file.now _ c.args.w.sums _ Line.BatchHeader c.args.w.header (rw (not-false _ c.if-not-w.false) at c.requires.0) c.put.ensures.0 c.put.ensures.1 (ap length c.put.ensures.2 ∙ put_length c.args.way c.args.file.now c.args.w.sums.records (c.args.w.header ∷ [])))
