@@ -7,7 +7,7 @@ use Rattle.std.proofs.Common.{rules}
 use Rattle.recall.proofs.take_out.Goals as goal
 
 pub returns-in-Refused : goal.returns-in-Refused
-returns-in-Refused c = out_refused c.args.way c.args.file.now c.args.entries.now c.args.rows.now c.in-Refused.refusal (asked_refused c.args.way c.args.file.now c.args.entries.now (length c.args.rows.now) c.in-Refused.refusal (ap (λ (c : Checked). c.answer-1) (sym c.check-checked.ensures) ∙ c.in-Refused.is))
+returns-in-Refused c = out_refused c.args.way c.args.file.now c.args.entries.now c.args.rows.now c.in-Refused.refusal (asked_refused c.args.way c.args.file.now c.args.entries.now (length c.args.rows.now) c.in-Refused.refusal (ap (λ (k : Checked). k.answer) (sym c.check-checked.ensures) ∙ c.in-Refused.is))
 
 pub slice_bounds-take_listed-end : goal.slice_bounds-take_listed-end
 slice_bounds-take_listed-end c = sym (length-replicate {0} {A = ℕ} 125000 0)

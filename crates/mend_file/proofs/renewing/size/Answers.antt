@@ -5,7 +5,7 @@ use Rattle.std.proofs.Common.{rules}
 use Rattle.mend_file.proofs.renewing.size.Goals as goal
 
 pub overflow_mul-result : goal.overflow_mul-result
-overflow_mul-result c = rw c.record_bytes.ensures (record { fits = size_few c.args.way c.args c.fillers.result (c.requires) c.fillers.ensures.1 })
+overflow_mul-result c = rw c.record_bytes.ensures (record { fits = size_few c.args.way c.args.before c.fillers.result (c.requires) c.fillers.ensures.1 })
 
 pub returns : goal.returns
 returns c = rw (c.record_bytes.ensures, c.fillers.ensures.0) refl
