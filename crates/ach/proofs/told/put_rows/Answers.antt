@@ -12,7 +12,7 @@ pub loop-i-init : goal.loop-i-init
 loop-i-init c = (omega arith, refl)
 
 pub loop-i-preserved : goal.loop-i-preserved
-loop-i-preserved c = (omega (arith, c.loop-i-test.true), sets_next c.loop-i.numbers c.args.t2 5 c.loop-i.i 0 (search rules) ∙ c.loop-i.invariant.1)
+loop-i-preserved c = (omega (arith, c.loop-i-test.true), sets_next c.loop-i.numbers c.args.rows 5 c.loop-i.i 0 (search rules) ∙ c.loop-i.invariant.1)
 
 pub returns : goal.returns
-returns c = let n : length c.args.t2 ≡ 24 = search rules in let m : length c.args.t2 ≤ c.loop-i.i = omega (arith, n, c.loop-i-test.false) in rw (drop_of_length-le c.args.t2 m) at c.loop-i.invariant.1
+returns c = let n : length c.args.rows ≡ 24 = search rules in let m : length c.args.rows ≤ c.loop-i.i = omega (arith, n, c.loop-i-test.false) in rw (drop_of_length-le c.args.rows m) at c.loop-i.invariant.1
