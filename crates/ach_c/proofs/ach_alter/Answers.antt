@@ -1,8 +1,10 @@
-use Rattle.ach.specs.Told.{code_of_answer, left}
-use Rattle.layout.specs.declared.Altered.{Altered}
-use mathlib.Core.Path.{◌∙◌, ap}
-use Rattle.std.proofs.Common.{rules}
+use Rattle.alter.specs.Alter.{alter_listed_of}
+use Rattle.ach.specs.Told.{way_of}
+use Rattle.ach_c.proofs.Laws.{altered_told}
 use Rattle.ach_c.proofs.ach_alter.Goals as goal
 
 pub returns : goal.returns
-returns c = let e = (rw c.way_of.ensures at c.alter-altered.ensures.0) in (c.tell_altered.ensures.0 ∙ ap (λ (m : Altered). code_of_answer m.answer) e, (rw c.way_of.ensures at c.alter-altered.ensures.1), (rw c.way_of.ensures at c.alter-altered.ensures.2), c.tell_altered.ensures.1 ∙ ap (λ (m : Altered). left m.answer m.difference c.args.difference.now) e)
+returns c =
+    altered_told c.way_of.result (way_of c.args.way) c.way_of.ensures (λ w. alter_listed_of w c.args.file.now c.args.rows.now c.args.entry c.args.amount) c.alter-altered.result
+    c.alter-altered.new.file c.alter-altered.new.rows c.alter-altered.ensures.0 c.alter-altered.ensures.1 c.alter-altered.ensures.2 c.args.difference.now
+    c.tell_altered.result c.tell_altered.new.difference c.tell_altered.ensures.0 c.tell_altered.ensures.1

@@ -1,8 +1,10 @@
-use Rattle.ach.specs.Told.{code_of_answer, left}
-use Rattle.layout.specs.declared.Made.{Made}
-use mathlib.Core.Path.{◌∙◌, ap}
-use Rattle.std.proofs.Common.{rules}
+use Rattle.recall_view.specs.RecallView.{take_out_of}
+use Rattle.ach.specs.Told.{way_of}
+use Rattle.ach_c.proofs.Laws.{taken_told}
 use Rattle.ach_c.proofs.ach_take_out.Goals as goal
 
 pub returns : goal.returns
-returns c = let e = (rw c.way_of.ensures at c.take_out-made.ensures.0) in (c.tell_made.ensures.0 ∙ ap (λ (m : Made). code_of_answer m.answer) e, (rw c.way_of.ensures at c.take_out-made.ensures.1), (rw c.way_of.ensures at c.take_out-made.ensures.2), c.tell_made.ensures.1 ∙ ap (λ (m : Made). left m.answer m.length c.args.length.now) e)
+returns c =
+    taken_told c.way_of.result (way_of c.args.way) c.way_of.ensures (λ w. take_out_of w c.args.file.now c.args.entries.now c.args.rows.now) c.take_out-made.result
+    c.take_out-made.new.file c.take_out-made.new.rows c.take_out-made.ensures.0 c.take_out-made.ensures.1 c.take_out-made.ensures.2 c.args.length.now
+    c.tell_made.result c.tell_made.new.length c.tell_made.ensures.0 c.tell_made.ensures.1
