@@ -1,6 +1,6 @@
 -- What was accepted before a request is accepted still, with the same acceptance.
 -- Assumes nothing.
-use Prim.Native.Nat.{ℕ, ◌+◌, ◌<◌}
+use Prim.Native.Nat.{ℕ, ◌+◌}
 use native.Mathlib.Omega.{arith}
 use mathlib.Core.Path.{◌≡◌, refl, sym, ap, ◌∙◌}
 use mathlib.Core.Bool.{Bool, true, false, ◌&&◌, ◌||◌, false≢true}
@@ -28,7 +28,6 @@ use Rattle.check_across.specs.Across.{entry_code, batch_class, code_rule, amount
 use Rattle.check_field.specs.Field.{field_of}
 use Rattle.check_sums.specs.declared.State.{State}
 use Rattle.check_record.specs.declared.Verdict.{Verdict}
-use Rattle.check_record.specs.declared.Stepped.{Stepped}
 use Rattle.check_sums.specs.Sums.{start, tally}
 use Rattle.check_record.specs.Record.{Piece, found, fields_from, line_of, stepped, closing, record_of, refused, onward, run_from, length_fits, raw_records, piece_of, checked_of}
 use Rattle.view.specs.Sized.{All}

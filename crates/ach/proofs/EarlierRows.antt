@@ -20,7 +20,6 @@ use Rattle.check_order.specs.Order.{complete}
 use Rattle.check_sums.specs.declared.State.{State}
 use Rattle.check_sums.specs.Sums.{add_to_row, start, tally}
 use Rattle.check_record.specs.declared.Verdict.{Verdict}
-use Rattle.check_record.specs.declared.Stepped.{Stepped}
 use Rattle.check_record.specs.Record.{Piece, line_of, stepped, closing, refused, accepted, onward, length_fits, raw_records, piece_of, checked_of}
 use Rattle.view.specs.Keeps.{codes}
 use Rattle.view_laws.proofs.Own.{code_back}

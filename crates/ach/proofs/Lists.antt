@@ -1,24 +1,22 @@
 -- What request 4 asks of client lists, over the contracts of import and export.
 -- Assumes nothing.
-use Prim.Native.Nat.{ℕ, ◌+◌, ◌≤◌}
+use Prim.Native.Nat.{ℕ, ◌≤◌}
 use mathlib.Core.Path.{◌≡◌, refl, sym, ap, ap₂, ◌∙◌, subst}
 use mathlib.Core.Logic.{◌↔◌}
-use mathlib.Core.Bool.{Bool, true, false}
-use mathlib.Core.List.{List, [], ◌∷◌, ◌++◌, append-nil}
+use mathlib.Core.Bool.{true}
+use mathlib.Core.List.{List, append-nil}
 use lib.ListN.{length, take}
-use borrow.Author.Tests.{leb-true, le-leb}
-use lib.Dec.{leb}
+use borrow.Author.Tests.{le-leb}
 use Rattle.layout.specs.declared.Answer.{Answer}
 use Rattle.layout.specs.declared.Refusal.{Refusal}
 use Rattle.layout.specs.declared.Made.{Made}
 use Rattle.layout.specs.declared.Fault.{Fault}
 use Rattle.layout.specs.declared.Way.{Way}
-use Rattle.check_record.specs.Record.{checked_of}
 use Rattle.view.specs.View.{entries_of, view_of}
-use Rattle.view.specs.Table.{shaped, formed, table_bytes}
-use Rattle.view.specs.Outcome.{demand, and_then, made, room}
+use Rattle.view.specs.Table.{formed}
+use Rattle.view.specs.Outcome.{demand, and_then, room}
 use Rattle.layout.specs.Paper.{refusal}
-use Rattle.view_laws.proofs.Answers.{not_granted, then_granted, demand_granted}
+use Rattle.view_laws.proofs.Answers.{then_granted}
 use Rattle.view_laws.proofs.Tables.{view_of_table_lem, view_of_formed}
 use Rattle.table_write.specs.Judge.{writable}
 use Rattle.csv_cells.specs.Cells.{lines_in}

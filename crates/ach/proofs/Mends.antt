@@ -1,31 +1,28 @@
 -- What request 9 asks of mending, over its contract: whatever outcome it permits has these properties.
 -- Assumes nothing.
 use mathlib.Core.Path.{◌≡◌, refl, sym, ap, ◌∙◌}
-use mathlib.Core.Logic.{◌↔◌, ◌≢◌}
+use mathlib.Core.Logic.{◌↔◌}
 use mathlib.Core.Bool.{true, false, ◌&&◌}
 use mathlib.Core.List.{List, [], ◌∷◌, ◌++◌}
-use Prim.Native.Nat.{ℕ, ◌+◌, ◌≤◌, ◌<◌}
-use native.Mathlib.Omega.{arith}
+use Prim.Native.Nat.{ℕ, ◌≤◌}
 use lib.Dec.{leb}
-use lib.ListN.{length, get_or, take, drop, replicate}
+use lib.ListN.{length, take, drop, replicate}
 use lib.Seq.{take_at}
-use Rattle.text.specs.Decimal.{render}
-use Rattle.text.specs.Rows.{joined}
 use Rattle.layout.specs.declared.Fault.{Fault}
 use Rattle.layout.specs.declared.Answer.{Answer}
 use Rattle.layout.specs.declared.Refusal.{Refusal}
 use Rattle.layout.specs.declared.Way.{Way}
 use Rattle.layout.specs.Paper.{refusal}
 use Rattle.check_record.specs.Record.{length_fits, raw_records, checked_of}
-use Rattle.view.specs.View.{view_of, file_of}
+use Rattle.view.specs.View.{view_of}
 use Rattle.view.specs.Table.{formed, table_of}
 use Rattle.mend.specs.declared.Mended.{Mended}
 use Rattle.mend.specs.Mend.{Mending, mended_file, changes_of, behind_nine, mend_answer, mend_of}
-use Rattle.mend.proofs.Examples.{Worked, worked, sent, total_wrong, total_mended, damaged}
+use Rattle.mend.proofs.Examples.{worked, sent, total_wrong, total_mended, damaged}
 use Rattle.mend.specs.Listed.{ListOf}
 use Rattle.mend.proofs.Granted.{Grants, exactly_granted, refused_length, refused_mended, refused_behind, refused_room, mend_granted, mend_refused, accepted_granted}
 use Rattle.mend.proofs.Stays.{mended_accepted, accepted_unchanged}
-use Rattle.mend.proofs.Says.{granted_view, granted_file, granted_table_lem}
+use Rattle.mend.proofs.Says.{granted_view, granted_table_lem}
 use Rattle.mend.proofs.Complete.{granted_list}
 use Rattle.ach.specs.Permits.{Mends}
 

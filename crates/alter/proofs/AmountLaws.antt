@@ -1,13 +1,13 @@
 -- An alteration is an exchange on the entry's side.
 -- Assumes nothing but what a statement says.
 use mathlib.Core.Path.{◌≡◌, refl, sym, ap, ap₂, ◌∙◌}
-use mathlib.Core.Bool.{Bool, true, false, ◌&&◌}
-use mathlib.Core.List.{List, [], ◌∷◌}
-use Prim.Native.Nat.{ℕ, ◌+◌, ◌-◌, ◌*◌, ◌^◌, ◌≤◌, ◌<◌}
+use mathlib.Core.Bool.{Bool, true, false}
+use mathlib.Core.List.{List, []}
+use Prim.Native.Nat.{ℕ, ◌+◌, ◌-◌, ◌*◌, ◌≤◌, ◌<◌}
 use native.Mathlib.Omega.{arith}
 use borrow.Author.Tests.{leb-true, le-leb, eqb-true}
 use lib.Dec.{leb, lit<, lit≤}
-use lib.IntN.{ℤ, pos, ◌-ℤ◌}
+use lib.IntN.{pos, ◌-ℤ◌}
 use lib.ListN.{length, get_or, take, drop}
 use lib.Seq.{sets}
 use Rattle.text.specs.Decimal.{value, render}
@@ -21,9 +21,9 @@ use Rattle.check_codes.specs.Codes.{code_of, carries, use_carries}
 use Rattle.check_across.specs.Across.{entry_code, entry_amount}
 use Rattle.check_field.specs.Field.{total_limit}
 use Rattle.check_record.specs.Record.{columns_in, checked_of}
-use Rattle.view.specs.View.{Entry, View, entries_of, sum_over, debit_of, credit_of, amount_of, code_in, batch_control_record, file_of, view_of}
+use Rattle.view.specs.View.{Entry, entries_of, sum_over, debit_of, credit_of, amount_of, code_in, batch_control_record, file_of, view_of}
 use Rattle.view.specs.Sized.{Sized}
-use Rattle.view.specs.Outcome.{demand, and_then, exists, entry_at, spot_of, entry_number, batch_control_number, file_control_number, amend, within, limits, addendum_answer, alter_answer, altered, alter_of}
+use Rattle.view.specs.Outcome.{demand, and_then, exists, entry_at, spot_of, entry_number, batch_control_number, file_control_number, amend, limits, addendum_answer, alter_answer, altered, alter_of}
 use Rattle.layout.specs.Paper.{refusal}
 use Rattle.view_laws.proofs.Formed.{BatchControlFields, batch_control_fields}
 use Rattle.view_laws.proofs.Amend.{spot_sized, batch_moved, file_moved, debit_moved, credit_moved}
@@ -34,8 +34,8 @@ use Rattle.find_entry.specs.declared.find.Places.{Places}
 use Rattle.alter.specs.declared.sides.Side.{Side}
 use Rattle.layout.specs.declared.Way.{Way}
 use Rattle.layout.specs.Ways.{record_bytes}
-use Rattle.find_entry.specs.WorkThere.{There, EntryAt, Found}
-use Rattle.alter.specs.WorkSides.{debit_side, credit_side, batch_total, side_answer, side_put, side_outcome, Ordered, Ready}
+use Rattle.find_entry.specs.WorkThere.{There, Found}
+use Rattle.alter.specs.WorkSides.{debit_side, credit_side, batch_total, side_put, side_outcome, Ready}
 use Rattle.find_entry.proofs.Places.{batch_part_lem}
 use Rattle.find_entry.proofs.Accepted.{entry_text, found_entry, total_text, few_records}
 use Rattle.alter.proofs.ExchangeLaws.{Comes, comes_refused}

@@ -4,7 +4,7 @@ use mathlib.Core.Path.{◌≡◌, refl, sym, ap, ◌∙◌}
 use mathlib.Core.Logic.{◌↔◌}
 use mathlib.Core.Bool.{true, false}
 use mathlib.Core.List.{List}
-use Prim.Native.Nat.{ℕ, ◌*◌, ◌≤◌}
+use Prim.Native.Nat.{ℕ, ◌≤◌}
 use native.Mathlib.Omega.{arith}
 use borrow.Author.Tests.{leb-true}
 use lib.Dec.{leb}
@@ -18,7 +18,7 @@ use Rattle.layout.specs.declared.Refusal.{Refusal}
 use Rattle.layout.specs.declared.Way.{Way}
 use Rattle.check_record.specs.Record.{checked_of}
 use Rattle.view.specs.View.{View, entries_of, amount_of, file_of, view_of}
-use Rattle.view.specs.Outcome.{demand, and_then, entry_at, amend, alter_answer, altered, alter_of}
+use Rattle.view.specs.Outcome.{entry_at, amend, alter_answer, altered, alter_of}
 use Rattle.layout.specs.Paper.{refusal}
 use Rattle.view_laws.proofs.Alter.{alter_exactly, alter_accepted, alter_refused}
 use Rattle.view_laws.proofs.Amend.{amend_sized, batches_length}

@@ -1,5 +1,5 @@
 -- What the code relies on of the sums, and no rule of the paper: each of n records adds less than 10,000,000,000 to a sum.
-use Rattle.std.specs.Prelude.{ℕ, ◌≤◌, ◌*◌}
+use Rattle.std.specs.Prelude.{◌≤◌, ◌*◌}
 use Rattle.check_across.specs.declared.Sums.{Sums}
 
 pub record Small (s : Sums) : Type 0 where

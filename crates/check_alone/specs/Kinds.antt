@@ -1,5 +1,5 @@
 -- "Kinds of field". p is the field's bytes.
-use Rattle.std.specs.Prelude.{ℕ, ◌+◌, ◌-◌, ◌*◌, ◌/◌, ◌%◌, Bool, true, false, ◌&&◌, ◌||◌, not, List, leb, eqb, get_or}
+use Rattle.std.specs.Prelude.{ℕ, ◌/◌, ◌%◌, Bool, true, false, ◌&&◌, ◌||◌, not, List, leb, eqb, get_or}
 use Rattle.text.specs.Decimal.{pick, every, digits, value}
 use Rattle.layout.specs.declared.Fault.{Fault}
 use Rattle.check_alone.specs.declared.Mark.{Mark}

@@ -11,7 +11,7 @@ use lib.Dec.{eqb}
 use lib.ListN.{length, get_or}
 use Rattle.text.specs.Decimal.{digit_of, value_from, value}
 use Rattle.text.proofs.DecimalLaws.{digit_of_lt, value_lt}
-use Rattle.check_digit.specs.CheckDigit.{weights, weighed, check_digit}
+use Rattle.check_digit.specs.CheckDigit.{weighed, check_digit}
 use Rattle.check_digit.specs.CheckDigit.{group_sum, sums_from, group_sums, balanced}
 
 -- ---- the table

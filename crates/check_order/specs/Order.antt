@@ -1,7 +1,7 @@
 -- "Order of record types: one 1; then one or more batches, each a 5, one or more entries, an 8; then one 9; then filler records of
 --  94 nines up to the next multiple of ten records. An entry is a 6, followed by one 7 exactly if its column 79 is '1'. An empty
 --  batch, or a file with no batch, is refused."
-use Rattle.std.specs.Prelude.{ℕ, ◌%◌, Bool, true, false, List, [], ◌∷◌, eqb, get_or}
+use Rattle.std.specs.Prelude.{ℕ, ◌%◌, Bool, false, List, eqb, get_or}
 use Rattle.text.specs.Decimal.{pick}
 use Rattle.layout.specs.declared.Line.{Line}
 use Rattle.check_across.specs.Across.{entry_flag}

@@ -1,13 +1,13 @@
 -- Why the sums over at most a million records fit: each record adds less than 10,000,000,000.
 -- Assumes nothing.
 use Prim.Native.Nat.{ℕ, zero, suc, ◌+◌, ◌*◌, ◌^◌, ◌<◌, ◌≤◌}
-use native.Mathlib.Nat.{lt_of_lt_of_le, pow-le-pow_right, zero-add}
+use native.Mathlib.Nat.{lt_of_lt_of_le, pow-le-pow_right}
 use native.Mathlib.Omega.{arith}
-use mathlib.Core.Path.{◌≡◌, refl, ◌∙◌}
-use mathlib.Core.List.{List, [], ◌∷◌, append-nil}
+use mathlib.Core.Path.{◌≡◌, refl}
+use mathlib.Core.List.{List, [], ◌∷◌}
 use lib.Dec.{lit<, lit≤}
 use lib.ListN.{length, get_or, set, replicate, take, drop, length-take, length-set}
-use lib.Seq.{sets, sets-eq, drop-length, get_or-set_other}
+use lib.Seq.{get_or-set_other}
 use Rattle.text.specs.Decimal.{value}
 use Rattle.text.proofs.DecimalLaws.{value_lt}
 use Rattle.layout.specs.declared.Line.{Line}

@@ -1,5 +1,5 @@
 -- What each record adds to the counts, the hash, the totals and the rows by code.
-use Rattle.std.specs.Prelude.{ℕ, ◌+◌, ◌*◌, List, [], ◌∷◌, get_or, set, replicate}
+use Rattle.std.specs.Prelude.{ℕ, ◌+◌, ◌*◌, List, get_or, set, replicate}
 use Rattle.text.specs.Rows.{columns}
 use Rattle.layout.specs.declared.Line.{Line}
 use Rattle.layout.specs.Fields.{record_columns}

@@ -1,16 +1,16 @@
 -- Amounts: the dollars of any number of digits, and that a text with a quote is none.
 -- Assumes nothing.
-use Prim.Native.Nat.{ℕ, zero, suc, ◌+◌, ◌-◌, ◌*◌, ◌^◌, ◌<◌, ◌≤◌}
+use Prim.Native.Nat.{ℕ, suc, ◌+◌, ◌-◌, ◌*◌, ◌^◌, ◌<◌, ◌≤◌}
 use native.Mathlib.Omega.{arith}
-use mathlib.Core.Path.{◌≡◌, refl, sym, ap, ◌∙◌, subst}
+use mathlib.Core.Path.{◌≡◌, refl, sym, ap, ◌∙◌}
 use mathlib.Core.Bool.{Bool, true, false, ◌&&◌, not, false≢true}
-use mathlib.Core.List.{List, [], ◌∷◌, ◌++◌}
+use mathlib.Core.List.{List, [], ◌∷◌}
 use lib.Dec.{leb, eqb, lit≤}
-use lib.ListN.{length, get_or, take, drop, length-take, length-drop}
-use lib.Seq.{drop-cons, take_all}
-use borrow.Author.Tests.{eqb-true, eqb-false, eq-eqb, ne_eqb, leb-true, leb-false, le-leb, lt-leb, not-true}
-use Rattle.text.specs.Decimal.{pick, every, is_digit, digits, digit_of, value_from, value}
-use Rattle.text.proofs.DecimalLaws.{and_both, both_and, every_cut, digit_range, digit_of_lt, value_from_lem, value_next, value_end, value_lt}
+use lib.ListN.{length, get_or, take, drop, length-drop}
+use lib.Seq.{drop-cons}
+use borrow.Author.Tests.{eqb-true, eq-eqb, ne_eqb, leb-true, leb-false, le-leb, lt-leb, not-true}
+use Rattle.text.specs.Decimal.{every, is_digit, digits, digit_of, value_from, value}
+use Rattle.text.proofs.DecimalLaws.{and_both, both_and, every_cut, digit_range, value_next, value_end, value_lt}
 use Rattle.csv_cells.specs.Cells.{undoubled}
 use Rattle.csv_entry.specs.Entries.{amount_form, cents_in, amount_right}
 

@@ -1,12 +1,11 @@
 -- What a line becomes: its faults, and the row of its entry.
 use Rattle.std.specs.Prelude.{ℕ, ◌+◌, ◌-◌, ◌*◌, Bool, true, false, ◌&&◌, List, [], ◌∷◌, ◌++◌, leb, eqb, length, get_or, take, drop, replicate}
-use Rattle.std.proofs.lemmas.List.Edits.{sets}
 use Rattle.text.specs.Decimal.{pick, digits, value, render}
 use Rattle.text.specs.Rows.{joined}
 use Rattle.layout.specs.declared.Fault.{Fault}
 use Rattle.layout.specs.Fields.{entry}
 use Rattle.check_record.specs.declared.Verdict.{Verdict}
-use Rattle.view.specs.View.{Entry, wide, written, blanks}
+use Rattle.view.specs.View.{Entry, wide, blanks}
 use Rattle.csv_cells.specs.Cells.{filled_to, six_fields, six_texts}
 
 -- "the amount is one or more digits, a point and two digits"

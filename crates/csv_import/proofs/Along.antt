@@ -1,27 +1,22 @@
 -- The walk along the rows and the lines is writing's walk along the table that they make.
 -- Assumes that the table is that one.
 use Prim.Native.Nat.{ℕ, zero, suc, ◌+◌, ◌-◌, ◌*◌, ◌<◌, ◌≤◌}
-use native.Mathlib.Numerals.{add-one}
 use native.Mathlib.Omega.{arith}
 use mathlib.Core.Path.{◌≡◌, refl, sym, ap, ◌∙◌, subst}
-use mathlib.Core.Bool.{Bool, true, false, false≢true}
-use mathlib.Core.List.{List, [], ◌∷◌, ◌++◌}
-use lib.Dec.{ltb, leb}
-use lib.ListN.{length, get_or, take, drop, length-drop, length-take}
-use lib.Seq.{drop-cons, drop-drop, take-take, take_at}
-use borrow.Author.Tests.{ltb-true, ltb-false, lt-ltb, le-ltb}
-use Rattle.text.specs.Decimal.{pick, render}
+use mathlib.Core.Bool.{true, false}
+use mathlib.Core.List.{List, [], ◌∷◌}
+use lib.Dec.{ltb}
+use lib.ListN.{length, get_or, take, drop, length-drop}
+use lib.Seq.{drop-cons, drop-drop}
 use Rattle.layout.specs.declared.Answer.{Answer}
 use Rattle.check_across.specs.declared.Sums.{Sums}
 use Rattle.check_order.specs.declared.Place.{Place}
-use Rattle.check_sums.specs.declared.State.{State}
 use Rattle.check_record.specs.declared.Verdict.{Verdict}
-use Rattle.view.specs.View.{sum_over, batch_record}
-use Rattle.view.specs.Table.{entries_due}
+use Rattle.view.specs.View.{batch_record}
 use Rattle.table_form.specs.WorkSections.{count_at}
 use Rattle.table_form.specs.Forms.{batch_from, file_from, entry_from}
 use Rattle.table_form.specs.declared.walking.Cursor.{Cursor}
-use Rattle.table_form.specs.WorkWalking.{Inside, owed, batch_rows, entries_ahead, batch_at, entry_at, form_at, past_entry, past_of}
+use Rattle.table_form.specs.WorkWalking.{Inside, owed, entry_at, form_at, past_entry, past_of}
 use Rattle.view_laws.proofs.Lists.{by_lt}
 use Rattle.csv_cells.specs.Cells.{lines_in, line_size}
 use Rattle.csv_entry.specs.Entries.{line_verdict, row_of_line}

@@ -1,12 +1,12 @@
 -- The import's table is what the walk relies on, and each turn of the walk is one of writing's.
 -- Assumes that the rows have their lengths and that no line has a fault.
-use Prim.Native.Nat.{ℕ, ◌+◌, ◌-◌, ◌*◌, ◌^◌, ◌<◌, ◌≤◌}
+use Prim.Native.Nat.{ℕ, ◌+◌, ◌*◌, ◌^◌, ◌<◌, ◌≤◌}
 use native.Mathlib.Omega.{arith}
 use mathlib.Core.Path.{◌≡◌, refl, sym, ap, ap₂, ◌∙◌, subst}
 use mathlib.Core.Bool.{Bool, true, false, ◌&&◌, false≢true}
-use mathlib.Core.List.{List, [], ◌∷◌, ◌++◌}
-use lib.Dec.{ltb, leb, eqb}
-use lib.ListN.{length, get_or, take, drop}
+use mathlib.Core.List.{List}
+use lib.Dec.{leb, eqb}
+use lib.ListN.{length, take, drop}
 use lib.Seq.{take_at, drop_at, length-take-le}
 use borrow.Author.Tests.{ltb-true, eqb-true, leb-true}
 use Rattle.text.specs.Decimal.{value, render}
@@ -15,7 +15,6 @@ use Rattle.layout.specs.declared.Answer.{Answer}
 use Rattle.layout.specs.declared.Fault.{Fault}
 use Rattle.layout.specs.declared.Refusal.{Refusal}
 use Rattle.layout.specs.declared.Way.{Way}
-use Rattle.check_across.specs.declared.Sums.{Sums}
 use Rattle.check_order.specs.declared.Place.{Place}
 use Rattle.check_sums.specs.declared.State.{State}
 use Rattle.check_record.specs.declared.Verdict.{Verdict}
@@ -23,17 +22,16 @@ use Rattle.check_order.specs.Order.{complete}
 use Rattle.check_sums.specs.Sums.{start, tally}
 use Rattle.check_record.specs.Record.{line_of, bare, record_of, refused, checked_of}
 use Rattle.view.specs.View.{records_of, fillers_after}
-use Rattle.view.specs.Table.{count_of, batch_part, entry_part, addendum_part, shaped, view_of_table, formed}
+use Rattle.view.specs.Table.{shaped, view_of_table, formed}
 use Rattle.view_laws.proofs.Tables.{table_shaped, shaped_sized}
 use Rattle.view_laws.proofs.Bridge.{checked_many}
 use Rattle.view_laws.proofs.Reading.{records_long}
 use Rattle.layout.specs.Paper.{refusal}
 use Rattle.view_laws.proofs.Answers.{then_granted, demand_granted}
 use Rattle.view_laws.proofs.Ways.{bare_run}
-use Rattle.table_form.specs.WorkSections.{count_at}
 use Rattle.table_form.proofs.ShapeLaws.{number_at}
 use Rattle.table_form.specs.declared.walking.Cursor.{Cursor}
-use Rattle.table_form.specs.WorkWalking.{Inside, form_of, past_of, first_of}
+use Rattle.table_form.specs.WorkWalking.{form_of, past_of, first_of}
 use Rattle.table_form.proofs.WalkLaws.{todo}
 use Rattle.table_write.proofs.PassLaws.{right, records_count, Walking, Begun, begun, Step, step_by_lem, form_long, some_left_lem, run_refused}
 use Rattle.csv_cells.specs.Cells.{lines_in, line_size}
@@ -41,7 +39,7 @@ use Rattle.csv_entry.specs.Entries.{row_of_line}
 use Rattle.csv_entry.specs.Import.{lines_answer, bank_in, import_view, import_table, rows_fit, import_answer}
 use Rattle.csv_import.proofs.TableLaws.{file_at, batch_at_lem, table_long, entry_at_lem, import_sized, counts}
 use Rattle.csv_import.specs.WorkFollowing.{entry_due, form_by, past_by, first_by}
-use Rattle.csv_import.proofs.Along.{Made, Along, Ahead, form_here, past_is, line_here, number_few, along_on, along_first}
+use Rattle.csv_import.proofs.Along.{Made, Along, Ahead, form_here, past_is, line_here, number_few, along_on}
 
 pub due_left : (p : Place) (n : ℕ) → entry_due p n ≡ true → 0 < n
 due_left Place.Start n e = absurd (false≢true e)

@@ -1,9 +1,8 @@
 -- The records of the file that an import's table forms, by the rows and the lines that the table will be made of: it stands nowhere yet.
-use Rattle.std.specs.Prelude.{ℕ, ◌+◌, ◌-◌, ◌*◌, Bool, true, false, List, ltb}
+use Rattle.std.specs.Prelude.{ℕ, ◌+◌, ◌-◌, ◌*◌, Bool, false, List, ltb}
 use Rattle.text.specs.Decimal.{pick}
 use Rattle.check_across.specs.declared.Sums.{Sums}
 use Rattle.check_order.specs.declared.Place.{Place}
-use Rattle.check_sums.specs.declared.State.{State}
 use Rattle.view.specs.View.{filler_record}
 use Rattle.table_form.specs.Forms.{file_from, batch_from, entry_from, batch_control_from, file_control_from}
 use Rattle.table_form.specs.declared.walking.Cursor.{Cursor}

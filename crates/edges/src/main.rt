@@ -1,9 +1,8 @@
 // Runs the vectors: checks each file that the arguments name, a line each.
 #![tactic(auto)]
 
-use std::io;
 use std::rt::Files;
-use std::{env, fs};
+use std::{env, fs, io};
 
 fn check_file(rt: &(impl Files + Print), path: &str) -> io::Result<()> {
     let mut file = fs::open(rt, path)?;

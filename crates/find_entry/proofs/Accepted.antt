@@ -1,13 +1,13 @@
 -- What an accepted file tells of an entry that there is.
 -- Assumes nothing but that.
-use mathlib.Core.Path.{◌≡◌, refl, sym, ap, ◌∙◌}
-use mathlib.Core.List.{List, [], ◌∷◌}
+use mathlib.Core.Path.{◌≡◌, sym, ap, ◌∙◌}
+use mathlib.Core.List.{List, []}
 use Prim.Native.Nat.{ℕ, ◌+◌, ◌-◌, ◌*◌, ◌/◌, ◌≤◌, ◌<◌}
 use native.Mathlib.Omega.{arith}
 use lib.Dec.{lit<}
 use lib.ListN.{length, take, drop, get_or, length-map}
 use Rattle.text.proofs.RowLaws.{length_rows}
-use Rattle.view.specs.View.{View, entry_record, batch_control_record, records_of, view_of}
+use Rattle.view.specs.View.{entry_record, batch_control_record, records_of, view_of}
 use Rattle.view.specs.Outcome.{entry_at, spot_of, entry_number, batch_control_number, file_control_number}
 use Rattle.view_laws.proofs.AmendFile.{entry_record_lem, batch_control_record_lem}
 use Rattle.view_laws.proofs.Bridge.{accepted_view}

@@ -3,7 +3,7 @@
 use mathlib.Core.Path.{◌≡◌, refl, sym, ap, ◌∙◌, subst}
 use mathlib.Core.Bool.{Bool, true, false, ◌&&◌}
 use mathlib.Core.List.{List, [], ◌∷◌, append-nil}
-use Prim.Native.Nat.{ℕ, ◌+◌, ◌-◌, ◌*◌, ◌/◌, ◌≤◌, ◌<◌}
+use Prim.Native.Nat.{ℕ, ◌+◌, ◌-◌, ◌*◌, ◌≤◌}
 use native.Mathlib.Omega.{arith}
 use borrow.Author.Tests.{leb-true, eq-eqb, ne_eqb, eqb-false}
 use lib.Dec.{leb, ltb, eqb, lit<, lit≤}
@@ -18,7 +18,7 @@ use Rattle.layout.specs.declared.Refusal.{Refusal}
 use Rattle.layout.specs.declared.Fault.{Fault}
 use Rattle.check_order.specs.Order.{takes_addendum}
 use Rattle.check_record.specs.Record.{columns_in, checked_of}
-use Rattle.view.specs.View.{Entry, View, entry_record, addendum_record, entries_of, records_of, view_of}
+use Rattle.view.specs.View.{entry_record, addendum_record, entries_of, view_of}
 use Rattle.view.specs.Sized.{SizedEntry}
 use Rattle.view.specs.Outcome.{Part, no_part, no_entry, entry_at, demand, and_then, spot_of, entry_number, addendum_answer, addendum_part_of, part_if, addendum_of}
 use Rattle.layout.specs.Paper.{refusal}

@@ -1,20 +1,19 @@
 -- Where an entry, its batch's control and the file's control stand among the records of a view.
 -- Assumes an entry that there is.
-use mathlib.Core.Path.{◌≡◌, refl, sym, ap, ap₂, ◌∙◌}
-use mathlib.Core.List.{List, [], ◌∷◌, ◌++◌, map, foldr, append_assoc}
-use Prim.Native.Nat.{ℕ, zero, suc, ◌+◌, ◌-◌, ◌*◌, ◌≤◌, ◌<◌}
+use mathlib.Core.Path.{◌≡◌, refl, sym, ap, ◌∙◌}
+use mathlib.Core.List.{List, [], ◌∷◌, ◌++◌, map, append_assoc}
+use Prim.Native.Nat.{ℕ, suc, ◌+◌, ◌-◌, ◌*◌, ◌≤◌, ◌<◌}
 use native.Mathlib.Nat.{zero-add, add-zero, mul-zero, mul-suc, mul-add}
-use native.Mathlib.Numerals.{add-one}
 use native.Mathlib.Omega.{arith}
 use borrow.Author.Tests.{eq-eqb, ne_eqb}
 use lib.Dec.{eqb}
-use lib.ListN.{length, take, drop, get_or, replicate, length-append, length-map, length-take, take-append-drop}
+use lib.ListN.{length, take, drop, get_or, replicate, length-append, length-map, take-append-drop}
 use lib.Seq.{get_or-append-add, drop-cons, drop_at, length-take-le}
 use mathlib.Core.Bool.{false}
 use Rattle.text.specs.Decimal.{pick}
 use Rattle.text.specs.Rows.{joined}
 use Rattle.view.specs.View.{Entry, Batch, View, file_record, entry_record, addendum_record, entry_records, batch_record, batch_records, batch_control_record, file_control_record, filler_record, fillers_after, entries_of, sum_over, records_in, body_of, records_of}
-use Rattle.view.specs.Outcome.{Spot, no_entry, spot_from, spot_of, entry_number, batch_control_number, file_control_number}
+use Rattle.view.specs.Outcome.{no_entry, spot_from, spot_of, entry_number, batch_control_number, file_control_number}
 use Rattle.view_laws.proofs.Lists.{by_lt, fold_append, sum_append}
 use Rattle.view_laws.proofs.Tables.{entries_in}
 use Rattle.view_laws.proofs.Amend.{records_for}

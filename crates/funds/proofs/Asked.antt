@@ -4,14 +4,13 @@ use mathlib.Core.Path.{◌≡◌, refl, sym, ap, ap₂, ◌∙◌}
 use mathlib.Core.Bool.{Bool, true, false}
 use mathlib.Core.List.{List, [], ◌∷◌, ◌++◌, append-nil, append_assoc}
 use Prim.Native.Nat.{ℕ, zero, suc, ◌+◌, ◌*◌, ◌/◌, ◌%◌, ◌≤◌, ◌<◌}
-use native.Mathlib.Nat.{add-zero}
 use native.Mathlib.Omega.{arith}
 use borrow.Author.Tests.{ltb-true, ltb-false}
 use lib.Dec.{ltb}
 use lib.ListN.{length, take, get_or, length-append}
 use lib.Seq.{take_at}
 use Rattle.text.specs.Decimal.{pick}
-use Rattle.view.specs.View.{Batch, View, sum_over, records_in, credit_of, entries_of, body_of, batch_records, batch_control_record}
+use Rattle.view.specs.View.{Batch, View, sum_over, records_in, credit_of, batch_records, batch_control_record}
 use Rattle.view_laws.proofs.Amend.{records_for}
 use Rattle.view_laws.proofs.BridgeFields.{never}
 use Rattle.view_laws.proofs.BridgeSums.{entries_records}
@@ -19,7 +18,7 @@ use Rattle.view_laws.proofs.Lists.{fold_append, sum_append}
 use Rattle.view_laws.proofs.Tables.{entries_in}
 use Rattle.find_entry.proofs.Places.{length_entries}
 use Rattle.funds.specs.declared.RunsOut.{RunsOut}
-use Rattle.funds.specs.Funds.{not_found, runs_out_from, runs_out, rows_from, rows_of}
+use Rattle.funds.specs.Funds.{runs_out_from, runs_out, rows_from, rows_of}
 use Rattle.funds.specs.Summed.{credits_to, control_at, summed_from, summed, FirstOver, NoneOver}
 
 -- ---- of any list

@@ -21,7 +21,6 @@ use Rattle.check_sums.specs.Sums.{start}
 use Rattle.check_record.specs.declared.Verdict.{Verdict}
 use Rattle.check_record.specs.Record.{Piece, record_of, refused, accepted, onward, run_from, length_fits, raw_records, piece_of, checked_of}
 use Rattle.view.specs.View.{view_of}
-use Rattle.view.specs.Outcome.{demand, and_then}
 use Rattle.layout.specs.Paper.{refusal}
 use Rattle.view_laws.proofs.Answers.{not_granted, demand_granted, then_granted}
 use Rattle.view_laws.proofs.Own.{own_entries}

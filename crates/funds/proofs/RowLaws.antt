@@ -1,9 +1,9 @@
 -- The list of a file: how long it is, and that the records of an accepted file tell it.
 -- Assumes nothing but what a statement says.
-use mathlib.Core.Path.{◌≡◌, refl, sym, ap, ◌∙◌}
+use mathlib.Core.Path.{◌≡◌, refl, ap, ◌∙◌}
 use mathlib.Core.Bool.{true, false}
 use mathlib.Core.List.{List, [], ◌∷◌, ◌++◌, map, append_assoc}
-use Prim.Native.Nat.{ℕ, zero, suc, ◌+◌, ◌*◌, ◌≤◌, ◌<◌}
+use Prim.Native.Nat.{ℕ, zero, suc, ◌+◌, ◌*◌, ◌≤◌}
 use native.Mathlib.Nat.{add-zero}
 use native.Mathlib.Omega.{arith}
 use lib.Dec.{eqb}
@@ -14,7 +14,7 @@ use Rattle.text.proofs.DecimalLaws.{value_render_lt}
 use Rattle.layout.specs.declared.Answer.{Answer}
 use Rattle.layout.specs.declared.Way.{Way}
 use Rattle.check_record.specs.Record.{columns_in, checked_of}
-use Rattle.view.specs.View.{Entry, Batch, View, file_record, entry_record, addendum_record, batch_record, batch_records, batch_control_record, file_control_record, filler_record, fillers_after, body_of, records_of, sum_over, records_in, credit_of, view_of}
+use Rattle.view.specs.View.{Entry, Batch, View, file_record, entry_record, addendum_record, batch_record, batch_control_record, file_control_record, filler_record, fillers_after, body_of, sum_over, records_in, credit_of, view_of}
 use Rattle.view.specs.Sized.{All, SizedBatch}
 use Rattle.view.specs.Keeps.{BatchesKeep}
 use Rattle.view_laws.proofs.Amend.{records_for}

@@ -1,5 +1,5 @@
 -- "Files mended, with a list": the mended records of any records, what changed, and what mending gives and leaves, for any bytes at all.
-use Rattle.std.specs.Prelude.{ℕ, ◌+◌, ◌≡◌, Bool, ◌&&◌, List, [], ◌∷◌, ◌++◌, eqb, leb, ltb, length, get_or, take, drop, replicate}
+use Rattle.std.specs.Prelude.{ℕ, ◌+◌, Bool, ◌&&◌, List, [], ◌∷◌, ◌++◌, eqb, leb, ltb, length, get_or, take, drop, replicate}
 use Rattle.text.specs.Decimal.{pick, render}
 use Rattle.text.specs.Rows.{columns, joined, section}
 use Rattle.text.specs.Same.{same_bytes}

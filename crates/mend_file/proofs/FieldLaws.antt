@@ -1,24 +1,24 @@
 -- The fields of two records one after the other: what the rows from one field on come to, and what they put.
 -- Assumes nothing but what a statement says.
-use mathlib.Core.Path.{◌≡◌, refl, sym, ap, ap₂, ◌∙◌, subst}
+use mathlib.Core.Path.{◌≡◌, refl, sym, ap, ap₂, ◌∙◌}
 use mathlib.Core.Bool.{Bool, true, false, ◌&&◌}
 use mathlib.Core.List.{List, [], ◌∷◌, ◌++◌, append-nil}
-use Prim.Native.Nat.{ℕ, zero, suc, ◌+◌, ◌-◌, ◌*◌, ◌≤◌, ◌<◌}
+use Prim.Native.Nat.{ℕ, suc, ◌+◌, ◌-◌, ◌*◌, ◌≤◌, ◌<◌}
 use native.Mathlib.Nat.{zero-add}
 use native.Mathlib.Omega.{arith}
 use borrow.Author.Tests.{leb-true}
 use lib.Dec.{leb}
 use lib.ListN.{length, get_or, take, drop, length-append, length-take, length-drop, drop_of_length-le}
-use lib.Seq.{sets, drop-cons, take-take}
+use lib.Seq.{sets, drop-cons}
 use Rattle.text.specs.Decimal.{pick, render}
 use Rattle.text.specs.Rows.{columns, joined}
 use Rattle.text.specs.Same.{same_bytes}
 use Rattle.text.proofs.DecimalLaws.{and_both, length_render}
-use Rattle.text.proofs.RowLaws.{joined_append, length_columns}
+use Rattle.text.proofs.RowLaws.{joined_append}
 use Rattle.layout.specs.declared.Row.{Row}
 use Rattle.layout.specs.declared.Line.{Line}
 use Rattle.layout.specs.Fields.{no_row, rows_of}
-use Rattle.layout.specs.WorkFits.{row_fits, kind_fits}
+use Rattle.layout.specs.WorkFits.{row_fits}
 use Rattle.table_form.proofs.FormLaws.{number_put}
 use Rattle.table_read.specs.WorkPasses.{between}
 use Rattle.table_read.specs.WorkPuts.{Puts, Room}

@@ -1,8 +1,8 @@
 -- The walk along a file that is mended: what is left from a place on gives the whole answer.
 -- Assumes nothing but what a statement says.
-use mathlib.Core.Path.{◌≡◌, refl, sym, ap, ap₂, ◌∙◌, subst}
+use mathlib.Core.Path.{◌≡◌, sym, ap, ap₂, ◌∙◌, subst}
 use mathlib.Core.Bool.{Bool, true, false}
-use mathlib.Core.List.{List, [], ◌∷◌}
+use mathlib.Core.List.{List}
 use Prim.Native.Nat.{ℕ, zero, suc, ◌+◌, ◌*◌, ◌≤◌, ◌<◌}
 use native.Mathlib.Nat.{mul-zero}
 use native.Mathlib.Omega.{arith}
@@ -15,7 +15,7 @@ use Rattle.layout.specs.declared.Way.{Way}
 use Rattle.layout.specs.Paper.{refusal}
 use Rattle.layout.specs.Ways.{record_bytes}
 use Rattle.check_record.specs.Record.{length_fits, raw_records}
-use Rattle.check_record.proofs.Ways.{raw_from, raw_at, columns_at, columns_of_lem, raw_next, raw_end, raw_whole}
+use Rattle.check_record.proofs.Ways.{raw_from, columns_at, columns_of_lem, raw_next, raw_end, raw_whole}
 use Rattle.check_file.proofs.Laws.{Walk, walk, fit}
 use Rattle.view.specs.View.{filler_record}
 use Rattle.view.specs.Outcome.{demand}

@@ -2,19 +2,19 @@
 -- Assumes nothing but what a statement says.
 use mathlib.Core.Path.{◌≡◌, refl, sym, ap, ap₂, ◌∙◌, subst}
 use mathlib.Core.Bool.{Bool, true, false, ◌&&◌}
-use mathlib.Core.List.{List, [], ◌∷◌, ◌++◌, append-nil}
-use Prim.Native.Nat.{ℕ, zero, suc, ◌+◌, ◌-◌, ◌*◌, ◌/◌, ◌≤◌, ◌<◌}
+use mathlib.Core.List.{List, [], ◌∷◌, ◌++◌}
+use Prim.Native.Nat.{ℕ, zero, suc, ◌+◌, ◌-◌, ◌*◌, ◌≤◌, ◌<◌}
 use native.Mathlib.Nat.{zero-add}
 use native.Mathlib.Omega.{arith}
-use borrow.Author.Tests.{eqb-true, eq-eqb, ne_eqb}
-use lib.Dec.{eqb, leb, ltb}
-use lib.ListN.{length, get_or, take, drop, replicate, length-append, length-take, length-drop, length-replicate}
-use lib.Seq.{take-take, take_all, drop-drop, length-take-le, take_at}
-use Rattle.text.specs.Decimal.{pick, render}
-use Rattle.text.specs.Rows.{columns, joined, section}
+use borrow.Author.Tests.{eq-eqb, ne_eqb}
+use lib.Dec.{eqb, ltb}
+use lib.ListN.{length, get_or, take, drop, length-append}
+use lib.Seq.{take-take, length-take-le, take_at}
+use Rattle.text.specs.Decimal.{pick}
+use Rattle.text.specs.Rows.{columns, joined}
 use Rattle.text.specs.Same.{same_bytes}
-use Rattle.text.proofs.DecimalLaws.{and_both, length_render}
-use Rattle.text.proofs.RowLaws.{joined_append, length_rows}
+use Rattle.text.proofs.DecimalLaws.{and_both}
+use Rattle.text.proofs.RowLaws.{joined_append}
 use Rattle.text.proofs.SetLaws.{drop_take}
 use Rattle.layout.specs.declared.Row.{Row}
 use Rattle.layout.specs.declared.Way.{Way}
@@ -27,21 +27,16 @@ use Rattle.check_sums.specs.declared.State.{State}
 use Rattle.check_sums.specs.WorkFair.{Fair}
 use Rattle.check_sums.specs.Sums.{start}
 use Rattle.check_record.specs.Record.{length_fits, raw_records}
-use Rattle.check_record.proofs.Ways.{raw_from, raw_at, raw_long, raw_next, raw_whole}
-use Rattle.view.specs.View.{fillers_after, filler_record, closed_by}
-use Rattle.table_form.specs.Forms.{file_control_from}
+use Rattle.check_record.proofs.Ways.{raw_from, raw_at, raw_next, raw_whole}
 use Rattle.table_read.specs.WorkPuts.{Puts, Room}
 use Rattle.table_read.proofs.Writing.{Left, left_start, left_room, left_next, left_end}
-use Rattle.mend.specs.Mend.{type_of, sums_past, header_past, refilled, mended_record, mended_end, ends_file, mended_from, mended_records, mended_file, before_nine, nine_at, change_row, field_changes, changes_from, filler_changes, changes_of}
-use Rattle.mend.proofs.Again.{by_test, file_long, record_long, mended_type, raw_mended}
-use Rattle.mend.proofs.Numbers.{nine_here, nine_later}
+use Rattle.mend.specs.Mend.{type_of, sums_past, header_past, mended_record, mended_end, mended_from, mended_records, nine_at, change_row, field_changes, changes_from}
+use Rattle.mend.proofs.Again.{record_long}
 use Rattle.mend_file.specs.WorkJudging.{NineAt}
-use Rattle.mend_file.proofs.JudgeLaws.{raw_drop, nine_few}
 use Rattle.mend_file.proofs.StepLaws.{mended_columns}
 use Rattle.mend_file.proofs.WalkLaws.{past_sums, past_header, Walked, walked_first, walked_room, walked_few, walked_parts, walked_ends, counted_next, walked_on, counted_all}
 use Rattle.mend_file.specs.declared.Listed.{Listed}
-use Rattle.mend_file.specs.declared.Walk.{Walk}
-use Rattle.mend_file.specs.WorkChanging.{listed_of, field_rows, control_rows, batch_rows, file_rows, filler_rows, Summed, Counted}
+use Rattle.mend_file.specs.WorkChanging.{listed_of, field_rows, control_rows, batch_rows, Summed}
 use Rattle.mend_file.proofs.FieldLaws.{row_inside, field_any}
 
 -- ---- a record's columns are all that its fields are read from

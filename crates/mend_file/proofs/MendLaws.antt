@@ -1,25 +1,22 @@
 -- Mending from what is known before a byte is put: the room, the answer, and what is left in the buffers.
 -- Assumes nothing but what a statement says.
-use mathlib.Core.Path.{◌≡◌, refl, sym, ap, ap₂, ◌∙◌, subst}
+use mathlib.Core.Path.{◌≡◌, refl, sym, ap, ap₂, ◌∙◌}
 use mathlib.Core.Bool.{Bool, true, false, ◌&&◌}
 use mathlib.Core.List.{List, ◌++◌}
 use Prim.Native.Nat.{ℕ, ◌+◌, ◌-◌, ◌≤◌, ◌<◌}
 use native.Mathlib.Nat.{zero-add}
 use native.Mathlib.Omega.{arith}
-use borrow.Author.Tests.{lt-leb, leb-true}
+use borrow.Author.Tests.{lt-leb}
 use lib.Dec.{leb}
 use lib.ListN.{length, take, drop, length-append, length-drop}
-use lib.Seq.{sets, sets-eq, take_at}
+use lib.Seq.{sets-eq, take_at}
 use Rattle.layout.specs.declared.Answer.{Answer}
 use Rattle.layout.specs.declared.Refusal.{Refusal}
 use Rattle.layout.specs.declared.Way.{Way}
-use Rattle.check_record.specs.Record.{length_fits, raw_records, checked_of}
 use Rattle.table_read.specs.WorkPuts.{Puts, Room}
 use Rattle.mend.specs.declared.Mended.{Mended}
-use Rattle.mend.specs.Mend.{Mending, mended_file, behind_nine, changes_of, mend_answer, mend_of}
-use Rattle.mend.proofs.Granted.{Grants, exactly_granted, mend_granted, mend_refused}
-use Rattle.mend_file.specs.declared.Plan.{Plan}
-use Rattle.mend_file.specs.WorkChanging.{Ready}
+use Rattle.mend.specs.Mend.{Mending, mended_file, changes_of, mend_answer, mend_of}
+use Rattle.mend.proofs.Granted.{exactly_granted, mend_granted, mend_refused}
 
 -- "23 if either buffer is short"
 pub file_short : (long room : ℕ) (other : Bool) → room < long → (leb long room && other) ≡ false

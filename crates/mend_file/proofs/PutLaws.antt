@@ -1,14 +1,14 @@
 -- The mended file put record by record: what is left to put makes it whole.
 -- Assumes nothing but what a statement says.
 use mathlib.Core.Path.{◌≡◌, refl, sym, ap, ap₂, ◌∙◌, subst}
-use mathlib.Core.Bool.{Bool, true, false, ◌&&◌}
+use mathlib.Core.Bool.{true, ◌&&◌}
 use mathlib.Core.List.{List, [], ◌∷◌, ◌++◌}
 use Prim.Native.Nat.{ℕ, suc, ◌+◌, ◌-◌, ◌*◌, ◌≤◌, ◌<◌}
 use native.Mathlib.Nat.{zero-add}
 use native.Mathlib.Omega.{arith}
 use lib.Dec.{eqb, ltb}
 use lib.ListN.{length, take, drop, replicate, length-append, length-drop, length-replicate}
-use lib.Seq.{sets, sets-eq, take_all, take-take, length-sets, length-take-le}
+use lib.Seq.{sets, sets-eq, take_all, length-sets}
 use Rattle.text.specs.Rows.{joined}
 use Rattle.text.specs.Widths.{AllLong}
 use Rattle.text.proofs.RowLaws.{length_joined}
@@ -19,20 +19,15 @@ use Rattle.check_across.specs.declared.Sums.{Sums}
 use Rattle.check_across.specs.WorkSmall.{Small}
 use Rattle.check_sums.specs.declared.State.{State}
 use Rattle.check_sums.specs.WorkFair.{Fair}
-use Rattle.check_sums.specs.Sums.{start, next_sums, next_header}
-use Rattle.check_sums.proofs.SumLaws.{records_next}
-use Rattle.check_record.specs.Record.{length_fits, raw_records}
-use Rattle.check_record.proofs.Ways.{raw_from, raw_at, columns_of_lem, columns_long, raw_long, raw_next, raw_whole}
-use Rattle.check_file.proofs.Laws.{zero_at, header_long}
+use Rattle.check_sums.specs.Sums.{start}
+use Rattle.check_record.specs.Record.{length_fits}
+use Rattle.check_record.proofs.Ways.{raw_from, raw_at, raw_long, raw_whole}
 use Rattle.view.specs.View.{fillers_after, filler_record, closed_by}
 use Rattle.table_form.specs.Forms.{file_control_from}
 use Rattle.table_write.proofs.PassLaws.{Left, left_first, left_on, left_length}
-use Rattle.mend.specs.Mend.{type_of, line_by, sums_past, header_past, refilled, mended_record, mended_end, ends_file, mended_from, mended_file, before_nine, nine_at}
-use Rattle.mend.proofs.Again.{by_test, file_long, record_long, refilled_long, fillers_long, at_nine, at_other}
-use Rattle.mend.proofs.Numbers.{nine_here, nine_later}
-use Rattle.mend.proofs.Together.{columns_type}
+use Rattle.mend.specs.Mend.{type_of, sums_past, header_past, refilled, mended_record, mended_end, mended_from, mended_file}
+use Rattle.mend.proofs.Again.{file_long, record_long, refilled_long, fillers_long}
 use Rattle.mend_file.specs.WorkJudging.{NineAt}
-use Rattle.mend_file.proofs.JudgeLaws.{nine_few}
 use Rattle.mend_file.specs.WorkRenewing.{end_from, Bodied}
 use Rattle.mend_file.proofs.WalkLaws.{past_sums, past_header, next_inside, one_more, Walked, walked_first, walked_room, walked_few, walked_parts, walked_ends, walked_on, counted_all}
 

@@ -12,7 +12,6 @@ use Rattle.layout.specs.declared.Way.{Way}
 use Rattle.layout.specs.Ways.{record_bytes}
 use Rattle.check_across.specs.declared.Sums.{Sums}
 use Rattle.check_across.specs.WorkSmall.{Small}
-use Rattle.check_sums.specs.declared.State.{State}
 use Rattle.check_sums.specs.WorkFair.{Fair}
 use Rattle.check_sums.specs.Sums.{start, next_sums, next_header}
 use Rattle.check_sums.proofs.SumLaws.{records_next}

@@ -1,14 +1,14 @@
 -- The changes as a whole: the sections of the 8s, of the 9 and of the fillers, as the code finds them.
 -- Assumes nothing but what a statement says.
 use mathlib.Core.Path.{◌≡◌, refl, sym, ap, ap₂, ◌∙◌, subst}
-use mathlib.Core.Bool.{Bool, true, false}
+use mathlib.Core.Bool.{true}
 use mathlib.Core.List.{List, [], ◌∷◌, ◌++◌, append-nil}
-use Prim.Native.Nat.{ℕ, zero, suc, ◌+◌, ◌-◌, ◌*◌, ◌/◌, ◌≤◌, ◌<◌}
+use Prim.Native.Nat.{ℕ, suc, ◌+◌, ◌-◌, ◌*◌, ◌/◌, ◌≤◌, ◌<◌}
 use native.Mathlib.Omega.{arith}
 use borrow.Author.Tests.{eqb-true, eq-eqb}
 use lib.Dec.{eqb}
 use lib.ListN.{length, take, drop, replicate, length-append, length-drop}
-use lib.Seq.{drop-drop, take_at}
+use lib.Seq.{take_at}
 use Rattle.text.specs.Decimal.{pick, render}
 use Rattle.text.specs.Rows.{joined, section}
 use Rattle.text.proofs.DecimalLaws.{and_both, length_render}
@@ -16,7 +16,6 @@ use Rattle.text.proofs.RowLaws.{length_rows}
 use Rattle.layout.specs.declared.Way.{Way}
 use Rattle.layout.specs.Fields.{batch_control, file_control}
 use Rattle.layout.specs.Ways.{record_bytes}
-use Rattle.check_across.specs.declared.Sums.{Sums}
 use Rattle.check_record.specs.Record.{length_fits, raw_records}
 use Rattle.check_record.proofs.Ways.{raw_from, raw_at, raw_next}
 use Rattle.view.specs.View.{fillers_after, filler_record, closed_by}

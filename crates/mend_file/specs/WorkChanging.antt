@@ -1,5 +1,5 @@
 -- How much the changes take: the rows of one field, of one record and of a file's records 8, and what a list of rows comes to.
-use Rattle.std.specs.Prelude.{ℕ, ◌+◌, ◌*◌, ◌≤◌, ◌≡◌, true, List, [], ◌∷◌, ◌++◌, eqb, length, take, drop}
+use Rattle.std.specs.Prelude.{ℕ, ◌+◌, ◌*◌, ◌≤◌, ◌≡◌, true, List, [], ◌∷◌, eqb, length, take, drop}
 use Rattle.text.specs.Decimal.{pick}
 use Rattle.text.specs.Rows.{columns, joined}
 use Rattle.text.specs.Same.{same_bytes}

@@ -28,7 +28,10 @@ pub fn print_refusal(rt: &impl Print, number: u64, record: u64, field: u64) -> i
 }
 
 fn print_acceptance(rt: &impl Print, c: Checked) -> io::Result<()> {
-    println!(rt; "OK {} {} {} {} {}", c.batches, c.entries, c.addenda, c.debit, c.credit)
+    println!(rt;
+        "OK {} {} {} {} {}",
+        c.batches, c.entries, c.addenda, c.debit, c.credit
+    )
 }
 
 pub fn print_checked(rt: &impl Print, c: Checked) -> io::Result<()> {

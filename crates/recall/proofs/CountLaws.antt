@@ -13,19 +13,18 @@ use lib.Seq.{drop-cons}
 use Rattle.text.specs.Decimal.{pick}
 use Rattle.layout.specs.declared.Way.{Way}
 use Rattle.layout.specs.Ways.{record_bytes}
-use Rattle.check_record.specs.Record.{columns_in}
 use Rattle.view.specs.View.{Entry, Batch, View, file_record, batch_record, entry_record, addendum_record, batch_control_record, body_of, view_of}
 use Rattle.view_laws.proofs.BridgeSums.{entries_records, batches_records}
 use Rattle.view_laws.proofs.Own.{own_records}
 use Rattle.find_entry.proofs.Parts.{counted, stands, on, record_byte}
 use Rattle.recall_view.specs.RecallView.{named, entries_left, unless_empty, batches_left, without}
-use Rattle.recall_view.proofs.Left.{by_named, gone_step, stay_step}
+use Rattle.recall_view.proofs.Left.{by_named}
 use Rattle.recall_close.specs.WorkMoving.{gone}
 use Rattle.recall_close.specs.WorkReady.{Walkable}
 use Rattle.recall.specs.declared.batches.Kept.{Kept}
 use Rattle.recall.specs.WorkCounting.{kept_so, entry_counted, record_counted, counted_from}
 use Rattle.recall.proofs.LeftLaws.{typed}
-use Rattle.recall_close.proofs.CloseLaws.{inside, old_few}
+use Rattle.recall_close.proofs.CloseLaws.{inside}
 
 -- ---- one record, by its first byte
 

@@ -1,12 +1,12 @@
 -- A bit set in its byte, and what the flags then say.
 -- Assumes nothing.
-use Prim.Native.Nat.{ℕ, zero, suc, ◌+◌, ◌*◌, ◌/◌, ◌%◌, ◌^◌, ◌<◌, max}
+use Prim.Native.Nat.{ℕ, zero, suc, ◌*◌, ◌/◌, ◌%◌, ◌^◌, ◌<◌, max}
 use native.Mathlib.Nat.{div-one, zero-div, div-div-eq-div-mul, mul-mod_left, one-mul, pow-suc, mul_comm, max-le, max-zero, max-eq_right}
 use native.Mathlib.Omega.{arith}
 use mathlib.Core.Path.{◌≡◌, refl, sym, ap, ap₂, ◌∙◌}
 use mathlib.Core.Bool.{Bool, true, false, ◌||◌}
 use mathlib.Core.List.{List}
-use borrow.Author.Tests.{eqb-true, eqb-false, eq-eqb, ne_eqb}
+use borrow.Author.Tests.{eqb-true, eqb-false}
 use lib.Arith.{digits_div, digits_mod}
 use lib.Bits.{bit_or, or_step}
 use lib.Dec.{eqb, lit≤}

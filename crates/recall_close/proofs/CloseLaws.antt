@@ -30,7 +30,7 @@ use Rattle.find_entry.proofs.Parts.{on, cut_out_lem, record_cut}
 use Rattle.table_form.proofs.WalkLaws.{control_long, file_control_long}
 use Rattle.recall_close.specs.declared.moving.Sort.{Sort}
 use Rattle.recall_close.specs.declared.moving.Walk.{Walk}
-use Rattle.recall_close.specs.WorkMoving.{gone, sort_of, walk, first_walk, opening, entry_kept, gives_by, next_by, gives_of, next_of, ending_of, left_from}
+use Rattle.recall_close.specs.WorkMoving.{gone, sort_of, first_walk, opening, entry_kept, gives_by, next_by, gives_of, next_of, ending_of, left_from}
 use Rattle.recall_close.specs.WorkReady.{Walkable, waiting, Room, put_at, Passed, closed_up, Closed}
 use Rattle.recall_close.proofs.PutLaws.{put_front, put_back, put_length}
 

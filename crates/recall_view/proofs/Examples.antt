@@ -2,7 +2,7 @@
 use mathlib.Core.Path.{◌≡◌, refl}
 use mathlib.Core.List.{List, [], ◌∷◌, ◌++◌}
 use Prim.Native.Nat.{ℕ}
-use lib.ListN.{length, replicate}
+use lib.ListN.{replicate}
 use Rattle.text.specs.Decimal.{every, value_from, render}
 use Rattle.text.specs.Same.{same_bytes}
 use Rattle.text.specs.Rows.{rows, joined}

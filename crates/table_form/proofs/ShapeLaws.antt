@@ -1,7 +1,6 @@
 -- Where the sections of a table stand by bytes, and its rows one by one.
 -- Assumes nothing.
 use Prim.Native.Nat.{ℕ, zero, suc, ◌+◌, ◌-◌, ◌*◌, ◌<◌, ◌≤◌}
-use native.Mathlib.Nat.{zero-add, suc-add}
 use native.Mathlib.Numerals.{sub-one}
 use native.Mathlib.Omega.{arith}
 use mathlib.Core.Path.{◌≡◌, refl, sym, ap, ◌∙◌}
@@ -10,7 +9,7 @@ use mathlib.Core.List.{List, [], ◌∷◌}
 use borrow.Author.Tests.{ne_eqb, eq-eqb}
 use lib.Dec.{eqb, lit<, lit≤}
 use lib.ListN.{length, get_or, take, drop}
-use lib.Seq.{drop-drop, take-nil, get_or-take, get_or-drop}
+use lib.Seq.{drop-drop, get_or-take, get_or-drop}
 use Rattle.text.specs.Decimal.{digits, value}
 use Rattle.text.specs.Rows.{rows}
 use Rattle.text.proofs.RowLaws.{get_d_columns}

@@ -5,14 +5,14 @@ use mathlib.Core.Logic.{◌↔◌}
 use mathlib.Core.Bool.{Bool, true, false, ◌&&◌, and-true, and_assoc}
 use mathlib.Core.List.{List, [], ◌∷◌, ◌++◌}
 use Prim.Native.Nat.{ℕ, zero, suc, ◌+◌, ◌-◌, ◌*◌, ◌/◌, ◌%◌, ◌^◌, ◌≤◌, ◌<◌, zero-le, suc-le-suc}
-use native.Mathlib.Nat.{pow-suc, one-le-pow, le_refl, le_of_suc-le-suc, mod-lt, mod-eq_of_lt, mod-mod, mod-one, add-mul, mul_assoc, mul_comm, mul_right_comm, zero-add, suc_inj}
+use native.Mathlib.Nat.{pow-suc, one-le-pow, le_refl, le_of_suc-le-suc, mod-lt, mod-eq_of_lt, mod-one, add-mul, mul_assoc, mul_comm, mul_right_comm, zero-add, suc_inj}
 use native.Mathlib.Numerals.{add-one, sub-one}
 use native.Mathlib.Omega.{arith}
 use borrow.Author.Tests.{leb-true, le-leb, eqb-true, eq-eqb}
 use lib.Arith.{digits_lt, digits_div, digits_mod, mod-mul}
 use lib.Dec.{eqb, leb, lit<}
 use lib.ListN.{length, take, drop, get_or, set, length-append, take-append-drop, drop_of_length-le}
-use lib.Seq.{drop-cons, take-suc, append_snoc, get_or-set_same, drop-set-lt, lt-length-set}
+use lib.Seq.{drop-cons, append_snoc, get_or-set_same, drop-set-lt, lt-length-set}
 use Rattle.text.specs.Decimal.{every, is_digit, digits, digit_of, value_from, value, render}
 use Rattle.text.specs.Same.{same_bytes}
 

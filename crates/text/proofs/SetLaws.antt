@@ -9,7 +9,7 @@ use native.Mathlib.Omega.{arith}
 use lib.ListN.{length, take, drop, get_or, set, length-set, length-drop}
 use lib.Seq.{sets, length-sets, sets-eq, drop-cons, drop-drop, drop-length, take-nil, drop-nil, drop_at, take-length, take-append-le, drop-append-le, length-take-le, set-append_left, take-set-le, drop-set-lt, drop-set-add, get_or-take, get_or-drop}
 use Rattle.text.specs.Patch.{patch}
-use Rattle.text.specs.Rows.{joined, rows}
+use Rattle.text.specs.Rows.{joined}
 use Rattle.text.specs.Widths.{AllLong}
 
 module _ {ℓ} {A : Type ℓ} where

@@ -2,9 +2,8 @@
 -- Each fact is computed from the definitions.
 use Prim.Native.Nat.{ℕ}
 use mathlib.Core.Path.{◌≡◌, refl}
-use mathlib.Core.List.{List, [], ◌∷◌, ◌++◌}
+use mathlib.Core.List.{List, [], ◌∷◌}
 use lib.IntN.{pos}
-use lib.ListN.{replicate}
 use Rattle.text.specs.Decimal.{every, value_from, render}
 use Rattle.text.specs.Same.{same_bytes}
 use Rattle.text.specs.Rows.{rows, joined}

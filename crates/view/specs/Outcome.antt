@@ -16,7 +16,7 @@ use Rattle.check_codes.specs.Codes.{code_of, carries}
 use Rattle.check_field.specs.Field.{total_limit}
 use Rattle.check_record.specs.Record.{checked_of}
 use Rattle.view.specs.View.{Entry, Batch, View, written, entry_record, entries_of, sum_over, records_in, debit_of, credit_of, amount_of, code_in, batch_records, body_of, file_of, view_of}
-use Rattle.view.specs.Table.{table_bytes, shaped, formed, table_of, count_wide, entry_wide, entry_part}
+use Rattle.view.specs.Table.{shaped, formed, table_of, count_wide, entry_wide, entry_part}
 
 -- what a question answers, and the lent bytes as it leaves them
 pub record Outcome (A : Type 0) : Type 0 where

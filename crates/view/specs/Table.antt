@@ -1,11 +1,11 @@
 -- "The pay table: sections in a fixed order, each after its count of six digits, no separators."
-use Rattle.std.specs.Prelude.{ℕ, zero, suc, ◌+◌, ◌-◌, ◌*◌, Bool, true, false, ◌&&◌, eqb, length, take, drop}
+use Rattle.std.specs.Prelude.{ℕ, ◌+◌, ◌*◌, Bool, true, ◌&&◌, eqb, length, take, drop}
 use mathlib.Core.List.{List, [], ◌∷◌, ◌++◌, map, foldr}
 use Rattle.text.specs.Decimal.{pick, digits, value, render}
-use Rattle.text.specs.Rows.{columns, rows, section}
+use Rattle.text.specs.Rows.{rows, section}
 use Rattle.layout.specs.declared.Way.{Way}
 use Rattle.check_order.specs.Order.{takes_addendum}
-use Rattle.view.specs.View.{Entry, Batch, View, entry_record, entries_of, sum_over, file_of, view_of}
+use Rattle.view.specs.View.{Entry, Batch, View, entries_of, sum_over, file_of, view_of}
 
 -- "counts of six digits"; "85 bytes"; "95 bytes each, columns 2-75 and 80-94 of record 5, then the batch's number of entries in
 --  six digits"; "93 bytes each"; "80 bytes each"

@@ -1,6 +1,6 @@
 -- What a file says: its file row, its batches, their entries with their addenda. Counts, hashes and totals are no part of it:
 -- `file_of` computes them from the entries.
-use Rattle.std.specs.Prelude.{ℕ, zero, suc, ◌+◌, ◌-◌, ◌*◌, ◌/◌, ◌%◌, Bool, true, false, eqb, length, get_or, take, drop, replicate}
+use Rattle.std.specs.Prelude.{ℕ, ◌+◌, ◌-◌, ◌%◌, eqb, length, get_or, take, drop, replicate}
 use mathlib.Core.List.{List, [], ◌∷◌, ◌++◌, map, foldr}
 use Rattle.text.specs.Decimal.{pick, render}
 use Rattle.text.specs.Rows.{columns, joined}
@@ -8,7 +8,7 @@ use Rattle.layout.specs.declared.Row.{Row}
 use Rattle.layout.specs.declared.Way.{Way}
 use Rattle.layout.specs.Fields.{record_columns, no_row, part, file_header, batch_header, entry, addendum, batch_control, file_control}
 use Rattle.layout.specs.Ways.{end_of}
-use Rattle.check_codes.specs.Codes.{code_of, code_row, debit_part, credit_part}
+use Rattle.check_codes.specs.Codes.{code_of, debit_part, credit_part}
 use Rattle.check_across.specs.Across.{entry_code, entry_bank, entry_amount}
 use Rattle.check_field.specs.Field.{blocks, hash_of}
 use Rattle.check_record.specs.Record.{columns_in}

@@ -1,7 +1,6 @@
 -- One amount put into a view: what changes, and what does not.
 -- Assumes the view's sizes, an entry that there is, and an amount of ten digits.
 use mathlib.Core.Path.{◌≡◌, refl, sym, ap, ap₂, subst, ◌∙◌}
-use mathlib.Core.Logic.{◌≢◌}
 use mathlib.Core.List.{List, [], ◌∷◌, ◌++◌, map, foldr, map-append}
 use Prim.Native.Nat.{ℕ, zero, suc, ◌+◌, ◌-◌, ◌*◌, ◌^◌, ◌≤◌, ◌<◌}
 use native.Mathlib.Nat.{zero-add, add-zero}
@@ -9,7 +8,7 @@ use native.Mathlib.Omega.{arith}
 use borrow.Author.Tests.{lt-ltb, le-ltb}
 use lib.Dec.{lit<, lit≤}
 use lib.ListN.{length, drop, get_or, set, length-append, length-set, length-map, get_or-append, get_or-map}
-use lib.Seq.{sets, length-sets, get_or-append-add, set-append_left, get_or-set_same, get_or-set_other}
+use lib.Seq.{sets, length-sets, get_or-append-add, set-append_left, get_or-set_same}
 use Rattle.text.specs.Decimal.{value, render}
 use Rattle.text.specs.Patch.{patch}
 use Rattle.text.specs.Rows.{columns, joined, section}

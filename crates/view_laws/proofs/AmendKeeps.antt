@@ -29,7 +29,7 @@ use Rattle.check_field.specs.Field.{total_limit}
 use Rattle.view.specs.View.{Entry, Batch, View, batch_record, entry_record, entries_of, sum_over, records_in, amount_of, code_in, debit_of, credit_of, records_of}
 use Rattle.view.specs.Outcome.{demand, no_entry, entry_at, Spot, spot_of, amended, amend_entry, amend, within, limits}
 use Rattle.view.specs.Sized.{All, SizedEntry, Sized}
-use Rattle.view.specs.Keeps.{Right, Within, EntryKeeps, EntriesKeep, BatchKeeps, BatchesKeep, Keeps}
+use Rattle.view.specs.Keeps.{Within, EntryKeeps, EntriesKeep, BatchKeeps, BatchesKeep, Keeps}
 use Rattle.view_laws.proofs.Lists.{all_append, all_at}
 use Rattle.view_laws.proofs.Tables.{entries_in, entries_sized}
 use Rattle.view_laws.proofs.BridgeFields.{never, need_right}

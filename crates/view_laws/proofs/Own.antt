@@ -3,16 +3,14 @@
 use mathlib.Core.Path.{◌≡◌, refl, sym, ap, ◌∙◌, subst}
 use mathlib.Core.Bool.{true}
 use mathlib.Core.List.{List, [], ◌∷◌}
-use Prim.Native.Nat.{ℕ, zero, suc, ◌+◌, ◌*◌, ◌/◌, ◌<◌}
-use native.Mathlib.Nat.{add_assoc, zero-add, add-zero, mul-div_right}
+use Prim.Native.Nat.{ℕ, zero, suc, ◌+◌, ◌*◌, ◌<◌}
+use native.Mathlib.Nat.{add_assoc, zero-add, add-zero}
 use native.Mathlib.Omega.{arith}
 use lib.Dec.{eqb, lit<}
 use lib.ListN.{length, get_or, set, replicate, length-set, get_or-replicate}
 use lib.Seq.{get_or-set_same, get_or-set_other}
 use borrow.Author.Tests.{eqb-false, eq-eqb, ne_eqb}
 use Rattle.text.specs.Decimal.{pick, digits, value}
-use Rattle.text.specs.Rows.{rows}
-use Rattle.text.proofs.RowLaws.{rows_joined}
 use Rattle.layout.specs.declared.Answer.{Answer}
 use Rattle.layout.specs.declared.Checked.{Checked}
 use Rattle.layout.specs.declared.Fault.{Fault}
@@ -22,14 +20,14 @@ use Rattle.check_codes.specs.Codes.{code_of, code_row, known, allowed}
 use Rattle.check_across.specs.Across.{code_rule, batch_class, batch_number, class_takes, entry_trace}
 use Rattle.check_sums.specs.Sums.{add_to_row}
 use Rattle.check_record.specs.Record.{checked_of, columns_in}
-use Rattle.view.specs.View.{Entry, Batch, View, batch_record, entry_record, records_in, sum_over, code_in, amount_of, debit_of, credit_of, entries_of, records_of, file_of, view_of}
+use Rattle.view.specs.View.{Entry, Batch, View, batch_record, entry_record, records_in, sum_over, code_in, amount_of, debit_of, credit_of, entries_of, records_of, view_of}
 use Rattle.view.specs.Table.{addenda_of, view_of_table, table_of}
-use Rattle.view.specs.Sized.{All, SizedBatch, Sized}
+use Rattle.view.specs.Sized.{All, SizedBatch}
 use Rattle.view.specs.Keeps.{EntriesKeep, BatchesKeep, Keeps, codes, count_by, cents_by}
 use Rattle.view_laws.proofs.Lists.{all_append}
 use Rattle.view_laws.proofs.Formed.{BatchControlFields, batch_control_fields, FileControlFields, file_control_fields}
 use Rattle.view_laws.proofs.Ways.{columns_back}
-use Rattle.view_laws.proofs.Reading.{records_long, file_length}
+use Rattle.view_laws.proofs.Reading.{records_long}
 use Rattle.view_laws.proofs.Tables.{entries_in, view_of_table_lem}
 use Rattle.view_laws.proofs.BridgeFields.{by_eq, never, need_right}
 use Rattle.view_laws.proofs.BridgeSums.{codes_after, file_sums, count_records}

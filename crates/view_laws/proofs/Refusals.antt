@@ -3,12 +3,11 @@
 use mathlib.Core.Path.{◌≡◌, refl, sym, subst}
 use mathlib.Core.Bool.{Bool, true, false, ◌&&◌, ◌||◌}
 use mathlib.Core.List.{List, [], ◌∷◌, ◌++◌}
-use Prim.Native.Nat.{ℕ, ◌+◌, ◌*◌, ◌^◌, ◌≤◌, ◌<◌}
-use native.Mathlib.Nat.{mul-mod_right}
+use Prim.Native.Nat.{ℕ, ◌+◌, ◌^◌, ◌≤◌, ◌<◌}
 use native.Mathlib.Omega.{arith}
 use lib.Dec.{eqb, leb, lit<}
 use lib.ListN.{length, take, drop}
-use borrow.Author.Tests.{leb-true, leb-false, lt-leb, le-leb, eq-eqb}
+use borrow.Author.Tests.{leb-true, leb-false, eq-eqb}
 use Rattle.text.specs.Decimal.{pick, every, render}
 use Rattle.text.specs.Rows.{columns}
 use Rattle.text.specs.Widths.{AllLong}
@@ -39,7 +38,7 @@ use Rattle.view.specs.Table.{shaped, formed, view_of_table}
 use Rattle.view.specs.Sized.{All, SizedEntry, SizedBatch, Sized}
 use Rattle.view_laws.proofs.Lists.{all_append, sum_append}
 use Rattle.view_laws.proofs.Tables.{entries_in, shaped_sized}
-use Rattle.view_laws.proofs.Reading.{records_long, file_length}
+use Rattle.view_laws.proofs.Reading.{records_long}
 use Rattle.view_laws.proofs.Formed.{file_fields, batch_fields, addendum_fields}
 use Rattle.view_laws.proofs.BridgeFields.{never}
 use Rattle.view_laws.proofs.BridgeSums.{after_entry, after_batch, after_body, records_length, body_length}

@@ -1,12 +1,11 @@
 -- Records with their line ends, and without them again.
 -- Assumes nothing.
 use mathlib.Core.Path.{◌≡◌, refl, sym, ap, ap₂, ◌∙◌, subst}
-use mathlib.Core.Bool.{Bool, true, false}
-use mathlib.Core.List.{List, [], ◌∷◌, ◌++◌, map}
-use Prim.Native.Nat.{ℕ, zero, suc, ◌+◌, ◌*◌, ◌/◌, ◌<◌, ◌≤◌}
+use mathlib.Core.List.{List, [], ◌∷◌, map}
+use Prim.Native.Nat.{ℕ, zero, suc, ◌+◌, ◌*◌, ◌/◌, ◌<◌}
 use native.Mathlib.Nat.{mul-div_right, le_of_suc-le-suc}
 use native.Mathlib.Omega.{arith}
-use lib.ListN.{length, take, drop, get_or, set, length-append, length-map, length-take, take-append-drop}
+use lib.ListN.{length, take, get_or, set, length-append, length-map, length-take}
 use lib.Seq.{take_at, drop_at, length-sets, sets}
 use Rattle.text.specs.Rows.{rows, joined}
 use Rattle.text.specs.Widths.{AllLong}

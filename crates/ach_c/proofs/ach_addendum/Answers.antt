@@ -1,6 +1,5 @@
 use Rattle.ach.proofs.ToldLaws.{granted_code, granted_gives, refused_lent}
 use mathlib.Core.Path.{refl, ◌∙◌}
-use Rattle.std.proofs.Common.{rules}
 use Rattle.ach_c.proofs.ach_addendum.Goals as goal
 
 pub returns-in-Granted : goal.returns-in-Granted

@@ -1,7 +1,6 @@
 use Rattle.ach.specs.Told.{code_of_answer, numbers_of, numbers_left}
 use Rattle.layout.specs.declared.Checked.{Checked}
 use mathlib.Core.Path.{◌∙◌, ap}
-use Rattle.std.proofs.Common.{rules}
 use Rattle.ach_c.proofs.ach_check.Goals as goal
 
 pub returns : goal.returns

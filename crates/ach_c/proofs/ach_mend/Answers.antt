@@ -1,7 +1,6 @@
 use Rattle.mend.specs.declared.Mended.{Mended}
 use Rattle.ach.proofs.ToldLaws.{granted_code, granted_gives, refused_lent}
 use mathlib.Core.Path.{refl, ◌∙◌, ap}
-use Rattle.std.proofs.Common.{rules}
 use Rattle.ach_c.proofs.ach_mend.Goals as goal
 
 pub returns-in-Granted : goal.returns-in-Granted

@@ -1,7 +1,6 @@
 use Rattle.ach.specs.Told.{code_of_answer, left}
 use Rattle.layout.specs.declared.Made.{Made}
 use mathlib.Core.Path.{◌∙◌, ap}
-use Rattle.std.proofs.Common.{rules}
 use Rattle.ach_c.proofs.ach_read.Goals as goal
 
 pub returns : goal.returns

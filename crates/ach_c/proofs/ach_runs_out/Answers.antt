@@ -1,6 +1,5 @@
 use mathlib.Core.Bool.{true, false}
 use Rattle.ach_c.proofs.Laws.{found_told}
-use Rattle.std.proofs.Common.{rules}
 use Rattle.ach_c.proofs.ach_runs_out.Goals as goal
 
 pub returns-then-asked : goal.returns-then-asked

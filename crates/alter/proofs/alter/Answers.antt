@@ -1,7 +1,5 @@
 use Rattle.alter.proofs.Listing.{file_first, other_list}
-use borrow.Author.Tests.{not-true, not-false}
 use mathlib.Core.Path.{sym, ◌∙◌, ap}
-use Rattle.std.proofs.Common.{rules}
 use Rattle.alter.proofs.alter.Goals as goal
 
 pub is_true_list-requires : goal.is_true_list-requires

@@ -1,6 +1,5 @@
 use Rattle.alter.proofs.Listing.{refused_listed, granted_listed, ready_again}
 use mathlib.Core.Path.{sym, ◌∙◌, ap}
-use Rattle.std.proofs.Common.{rules}
 use Rattle.alter.proofs.alter_listed.Goals as goal
 
 pub alter_accepted-altered-requires : goal.alter_accepted-altered-requires

@@ -1,9 +1,7 @@
 use Rattle.check_across.proofs.Laws.{bank_long}
 use Rattle.check_digit.proofs.GroupLaws.{digit_told, below}
 use Rattle.layout.specs.Fields.{entry, part}
-use borrow.Author.Tests.{not-true, not-false}
 use mathlib.Core.Path.{refl}
-use Rattle.std.proofs.Common.{rules}
 use Rattle.check_across.proofs.check_digit_rule.Goals as goal
 
 pub returns-then-not-digits : goal.returns-then-not-digits

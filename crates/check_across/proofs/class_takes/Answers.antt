@@ -1,6 +1,4 @@
-use borrow.Author.Tests.{not-true, not-false}
 use mathlib.Core.Path.{refl}
-use Rattle.std.proofs.Common.{rules}
 use Rattle.check_across.proofs.class_takes.Goals as goal
 
 pub returns-then-not-remits : goal.returns-then-not-remits

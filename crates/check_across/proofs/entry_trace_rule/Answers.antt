@@ -1,6 +1,5 @@
-use borrow.Author.Tests.{eq-eqb, ne_eqb, not-true, not-false}
+use borrow.Author.Tests.{eq-eqb, ne_eqb}
 use mathlib.Core.Path.{refl}
-use Rattle.std.proofs.Common.{rules}
 use Rattle.check_across.proofs.entry_trace_rule.Goals as goal
 
 pub returns-then-not-digits : goal.returns-then-not-digits

@@ -1,9 +1,4 @@
-use lib.ListN.{get_or}
-use lib.Dec.{eqb}
-use mathlib.Core.Bool.{◌||◌}
-use borrow.Author.Tests.{not-true, not-false}
 use mathlib.Core.Path.{refl}
-use Rattle.std.proofs.Common.{rules}
 use Rattle.check_across.proofs.flag_rule.Goals as goal
 
 pub returns-then-not-b : goal.returns-then-not-b

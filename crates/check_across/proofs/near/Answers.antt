@@ -1,6 +1,5 @@
 use borrow.Author.Tests.{eqb-true, leb-true}
 use mathlib.Core.Path.{refl}
-use Rattle.std.proofs.Common.{rules}
 use Rattle.check_across.proofs.near.Goals as goal
 
 pub code_rule-requires : goal.code_rule-requires

@@ -1,6 +1,5 @@
 use borrow.Author.Tests.{eq-eqb, ne_eqb}
 use mathlib.Core.Path.{refl}
-use Rattle.std.proofs.Common.{rules}
 use Rattle.check_across.proofs.trace_follows.Goals as goal
 
 pub returns-then-sums-eq0 : goal.returns-then-sums-eq0

@@ -1,5 +1,4 @@
 use mathlib.Core.Path.{refl}
-use Rattle.std.proofs.Common.{rules}
 use Rattle.check_codes.proofs.allowed.Goals as goal
 
 pub returns-in-Unknown : goal.returns-in-Unknown

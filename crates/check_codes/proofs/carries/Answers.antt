@@ -1,5 +1,4 @@
 use mathlib.Core.Path.{refl}
-use Rattle.std.proofs.Common.{rules}
 use Rattle.check_codes.proofs.carries.Goals as goal
 
 pub returns-in-Unknown : goal.returns-in-Unknown

@@ -1,7 +1,6 @@
 use Rattle.check_codes.proofs.CodeLaws.{unknown}
 use mathlib.Core.Logic.{⊎_elim}
 use mathlib.Core.Path.{refl}
-use Rattle.std.proofs.Common.{rules}
 use Rattle.check_codes.proofs.code_of.Goals as goal
 
 pub returns-in-22 : goal.returns-in-22

@@ -1,7 +1,6 @@
 use lib.Dec.{lit<}
 use borrow.Author.Tests.{ne_eqb}
 use mathlib.Core.Path.{refl}
-use Rattle.std.proofs.Common.{rules}
 use Rattle.check_codes.proofs.code_row.Goals as goal
 
 pub returns-in-22 : goal.returns-in-22

@@ -1,5 +1,4 @@
 use mathlib.Core.Path.{refl}
-use Rattle.std.proofs.Common.{rules}
 use Rattle.check_codes.proofs.use_carries.Goals as goal
 
 pub returns-in-Live : goal.returns-in-Live

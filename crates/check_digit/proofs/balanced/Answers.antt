@@ -1,5 +1,4 @@
 use mathlib.Core.Path.{refl}
-use Rattle.std.proofs.Common.{rules}
 use Rattle.check_digit.proofs.balanced.Goals as goal
 
 pub returns : goal.returns

@@ -1,7 +1,6 @@
 use Rattle.check_digit.proofs.GroupLaws.{table_at, group_le}
 use native.Mathlib.Omega.{arith}
 use mathlib.Core.Path.{◌∙◌}
-use Rattle.std.proofs.Common.{rules}
 use Rattle.check_digit.proofs.group.Goals as goal
 
 pub returns : goal.returns

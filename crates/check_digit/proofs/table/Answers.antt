@@ -1,6 +1,5 @@
 use Rattle.check_digit.specs.CheckDigit.{group_sum, sums_from, group_sums}
 use mathlib.Core.Path.{refl}
-use Rattle.std.proofs.Common.{rules}
 use Rattle.check_digit.proofs.table.Goals as goal
 
 pub returns : goal.returns

@@ -3,18 +3,13 @@ use Rattle.check_sums.proofs.SumLaws.{records_next, said_small}
 use Rattle.check_record.proofs.Laws.{fields_right_lem, fields_wrong, fields_end, first_le, rows_few}
 use Rattle.check_across.specs.declared.Sums.{Sums}
 use Rattle.check_sums.specs.declared.State.{State}
-use Rattle.check_sums.specs.WorkFair.{Fair}
 use Rattle.check_record.proofs.Ways.{columns_at, columns_long, raw_long, some_bytes}
-use Rattle.check_record.specs.Record.{fields_from, checked_of}
 use Rattle.layout.specs.Ways.{record_bytes}
-use Rattle.layout.specs.Fields.{rows_of, first_field}
+use Rattle.layout.specs.Fields.{rows_of}
 use native.Mathlib.Omega.{arith}
-use lib.ListN.{length, drop}
-use mathlib.Core.Path.{◌≡◌}
-use Prim.Native.Nat.{◌+◌, ◌-◌, ◌*◌, ◌≤◌}
-use borrow.Author.Tests.{not-true, not-false}
+use lib.ListN.{length}
+use Prim.Native.Nat.{◌+◌}
 use mathlib.Core.Path.{refl, sym, ◌∙◌, ap}
-use Rattle.std.proofs.Common.{rules}
 use Rattle.check_file.proofs.check.Goals as goal
 
 pub returns-then-not-whole_records : goal.returns-then-not-whole_records

@@ -1,4 +1,3 @@
-use Rattle.std.proofs.Common.{rules}
 use Rattle.check_order.proofs.complete.Goals as goal
 
 pub returns-in-FileDone : goal.returns-in-FileDone

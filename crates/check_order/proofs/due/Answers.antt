@@ -1,6 +1,5 @@
 use borrow.Author.Tests.{eq-eqb, ne_eqb}
 use mathlib.Core.Path.{refl}
-use Rattle.std.proofs.Common.{rules}
 use Rattle.check_order.proofs.due.Goals as goal
 
 pub returns-then-b-byte : goal.returns-then-b-byte

@@ -2,7 +2,6 @@ use Rattle.text.proofs.RowLaws.{get_d_columns}
 use lib.Dec.{lit≤}
 use borrow.Author.Tests.{eq-eqb, ne_eqb}
 use mathlib.Core.Path.{refl}
-use Rattle.std.proofs.Common.{rules}
 use Rattle.check_order.proofs.next_place.Goals as goal
 
 pub returns-then-rec-eq49 : goal.returns-then-rec-eq49

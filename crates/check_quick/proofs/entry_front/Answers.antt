@@ -8,7 +8,6 @@ use Rattle.text.specs.Decimal.{digits}
 use Rattle.layout.specs.Fields.{entry, part}
 use Rattle.layout.specs.declared.Fault.{Fault}
 use mathlib.Core.Path.{refl}
-use Rattle.std.proofs.Common.{rules}
 use Rattle.check_quick.proofs.entry_front.Goals as goal
 
 pub routing_right-routing-requires : goal.routing_right-routing-requires

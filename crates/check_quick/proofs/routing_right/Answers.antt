@@ -1,4 +1,3 @@
-use mathlib.Core.Bool.{◌&&◌}
 use Rattle.check_across.proofs.Laws.{bank_long}
 use Rattle.check_quick.proofs.QuickLaws.{gate_shut, gate_open}
 use Rattle.check_quick.specs.WorkQuick.{is_right}
@@ -9,7 +8,6 @@ use Rattle.layout.specs.Fields.{entry, part}
 use Rattle.layout.specs.declared.Fault.{Fault}
 use Rattle.text.specs.Decimal.{digits, value}
 use lib.Dec.{eqb}
-use borrow.Author.Tests.{not-true, not-false}
 use Rattle.std.proofs.Common.{rules}
 use Rattle.check_quick.proofs.routing_right.Goals as goal
 

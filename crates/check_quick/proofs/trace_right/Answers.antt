@@ -3,7 +3,6 @@ use Rattle.text.specs.Same.{same_bytes}
 use Rattle.text.specs.Decimal.{digits}
 use Rattle.check_quick.proofs.QuickLaws.{three_tests}
 use Rattle.layout.specs.declared.Fault.{Fault}
-use Rattle.std.proofs.Common.{rules}
 use Rattle.check_quick.proofs.trace_right.Goals as goal
 
 pub returns : goal.returns

@@ -1,6 +1,5 @@
 use mathlib.Core.Path.{refl}
 use Rattle.check_sums.proofs.SumLaws.{small_batch}
-use Rattle.std.proofs.Common.{rules}
 use Rattle.check_sums.proofs.add_batch.Goals as goal
 
 pub returns : goal.returns

@@ -1,7 +1,6 @@
 use Rattle.check_sums.proofs.SumLaws.{debit_le, credit_le}
 use native.Mathlib.Omega.{arith}
 use mathlib.Core.Path.{refl, ◌∙◌}
-use Rattle.std.proofs.Common.{rules}
 use Rattle.check_sums.proofs.add_entry.Goals as goal
 
 pub entered-requires : goal.entered-requires

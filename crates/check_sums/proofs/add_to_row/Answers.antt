@@ -3,7 +3,6 @@ use lib.Seq.{get_or-set_other}
 use native.Mathlib.Omega.{arith}
 use lib.ListN.{get_or}
 use Prim.Native.Nat.{◌+◌, ◌*◌}
-use Rattle.std.proofs.Common.{rules}
 use Rattle.check_sums.proofs.add_to_row.Goals as goal
 
 pub bounds-rows-sum : goal.bounds-rows-sum

@@ -2,7 +2,6 @@ use Rattle.check_sums.proofs.SumLaws.{rows_more, rows_kept, row_length}
 use native.Mathlib.Omega.{arith}
 use Prim.Native.Nat.{◌*◌, ◌+◌}
 use mathlib.Core.Path.{refl, ◌∙◌}
-use Rattle.std.proofs.Common.{rules}
 use Rattle.check_sums.proofs.count_in_row.Goals as goal
 
 pub add_to_row-requires : goal.add_to_row-requires

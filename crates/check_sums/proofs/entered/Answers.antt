@@ -1,6 +1,5 @@
 use Rattle.check_sums.proofs.SumLaws.{small_entered}
 use mathlib.Core.Path.{refl}
-use Rattle.std.proofs.Common.{rules}
 use Rattle.check_sums.proofs.entered.Goals as goal
 
 pub returns : goal.returns

@@ -1,6 +1,5 @@
 use mathlib.Core.Path.{◌∙◌}
 use Rattle.text.proofs.SetLaws.{sets_whole}
-use Rattle.std.proofs.Common.{rules}
 use Rattle.check_sums.proofs.kept.Goals as goal
 
 pub returns : goal.returns

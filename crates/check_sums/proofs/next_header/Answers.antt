@@ -1,7 +1,6 @@
 use native.Mathlib.Omega.{arith}
 use lib.Seq.{take_all}
 use mathlib.Core.Path.{sym, ◌∙◌}
-use Rattle.std.proofs.Common.{rules}
 use Rattle.check_sums.proofs.next_header.Goals as goal
 
 pub returns-in-BatchHeader : goal.returns-in-BatchHeader

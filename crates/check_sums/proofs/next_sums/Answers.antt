@@ -1,6 +1,5 @@
 use Rattle.check_sums.proofs.SumLaws.{said_small}
 use mathlib.Core.Path.{refl, ◌∙◌}
-use Rattle.std.proofs.Common.{rules}
 use Rattle.check_sums.proofs.next_sums.Goals as goal
 
 pub add_entry-requires : goal.add_entry-requires

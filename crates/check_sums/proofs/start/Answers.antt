@@ -1,6 +1,5 @@
 use Rattle.check_sums.proofs.SumLaws.{start_fair}
 use mathlib.Core.Path.{refl}
-use Rattle.std.proofs.Common.{rules}
 use Rattle.check_sums.proofs.start.Goals as goal
 
 pub returns : goal.returns

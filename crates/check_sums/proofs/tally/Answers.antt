@@ -1,8 +1,6 @@
 use Rattle.check_across.specs.declared.Sums.{Sums}
-use Rattle.check_sums.specs.declared.State.{State}
 use Rattle.check_sums.proofs.SumLaws.{records_next, said_small}
 use native.Mathlib.Omega.{arith}
-use Prim.Native.Nat.{ℕ}
 use mathlib.Core.Path.{◌∙◌, ap}
 use Rattle.std.proofs.Common.{rules}
 use Rattle.check_sums.proofs.tally.Goals as goal

@@ -1,6 +1,5 @@
 use borrow.Author.Tests.{eq-eqb, ne_eqb}
 use mathlib.Core.Path.{refl}
-use Rattle.std.proofs.Common.{rules}
 use Rattle.csv_cells.proofs.begin.Goals as goal
 
 pub returns-then-b-eq34 : goal.returns-then-b-eq34

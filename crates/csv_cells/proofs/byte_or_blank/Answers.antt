@@ -1,5 +1,4 @@
 use Rattle.csv_cells.proofs.CellLaws.{byte_there, byte_none}
-use Rattle.std.proofs.Common.{rules}
 use Rattle.csv_cells.proofs.byte_or_blank.Goals as goal
 
 pub returns-then-i-inner : goal.returns-then-i-inner

@@ -1,8 +1,7 @@
 use Rattle.csv_cells.proofs.CellLaws.{rest_of}
-use lib.ListN.{length, drop, length-drop}
+use lib.ListN.{length, length-drop}
 use native.Mathlib.Omega.{arith}
 use mathlib.Core.Path.{ap}
-use Rattle.std.proofs.Common.{rules}
 use Rattle.csv_cells.proofs.cell_at.Goals as goal
 
 pub returns : goal.returns

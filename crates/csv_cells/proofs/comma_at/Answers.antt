@@ -1,7 +1,6 @@
 use mathlib.Core.Bool.{false≢true}
 use Rattle.csv_cells.proofs.CellLaws.{no_comma}
 use mathlib.Core.Path.{refl}
-use Rattle.std.proofs.Common.{rules}
 use Rattle.csv_cells.proofs.comma_at.Goals as goal
 
 pub returns-then-at-s : goal.returns-then-at-s

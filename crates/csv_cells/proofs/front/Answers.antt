@@ -1,12 +1,7 @@
 use Rattle.csv_cells.proofs.CellLaws.{size_more, ends_more, size_stuck, ends_stuck, size_end, ends_end, cell_is}
-use Rattle.csv_cells.specs.Cells.{go_on, is_stuck, size_from, ends_from}
-use Rattle.csv_cells.specs.declared.Scan.{Scan}
-use lib.ListN.{length, drop, get_or}
-use mathlib.Core.Path.{◌≡◌}
+use Rattle.csv_cells.specs.Cells.{is_stuck}
 use native.Mathlib.Omega.{arith}
-use Prim.Native.Nat.{◌+◌, ◌-◌, ◌≤◌}
 use mathlib.Core.Path.{refl, sym, ◌∙◌, ap}
-use Rattle.std.proofs.Common.{rules}
 use Rattle.csv_cells.proofs.front.Goals as goal
 
 pub loop-i-init : goal.loop-i-init

@@ -1,11 +1,8 @@
-use Rattle.csv_cells.proofs.CellLaws.{size_more, ends_more, size_stuck, ends_stuck, size_end, ends_end, cell_is}
-use Rattle.csv_cells.specs.Cells.{go_on, is_stuck, size_from, ends_from}
+use Rattle.csv_cells.specs.Cells.{size_from, ends_from}
 use Rattle.csv_cells.specs.declared.Scan.{Scan}
-use lib.ListN.{length, drop, get_or}
+use lib.ListN.{length, drop}
 use mathlib.Core.Path.{◌≡◌}
-use native.Mathlib.Omega.{arith}
 use Prim.Native.Nat.{◌+◌, ◌-◌, ◌≤◌}
-use mathlib.Core.Path.{refl, sym, ◌∙◌, ap}
 use Rattle.csv_cells.proofs.front.Given as goal
 
 abbrev pub invariant-loop-i : goal.invariant-loop-i

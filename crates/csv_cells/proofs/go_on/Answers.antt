@@ -1,5 +1,4 @@
 use mathlib.Core.Path.{refl}
-use Rattle.std.proofs.Common.{rules}
 use Rattle.csv_cells.proofs.go_on.Goals as goal
 
 pub returns-in-Fresh : goal.returns-in-Fresh

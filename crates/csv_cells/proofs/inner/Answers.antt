@@ -1,5 +1,4 @@
 use Rattle.csv_cells.proofs.CellLaws.{inner_none, inner_plain, inner_lone, inner_quoted}
-use Rattle.std.proofs.Common.{rules}
 use Rattle.csv_cells.proofs.inner.Goals as goal
 
 pub returns-then-n-eq0 : goal.returns-then-n-eq0

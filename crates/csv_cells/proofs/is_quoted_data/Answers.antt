@@ -1,5 +1,4 @@
 use mathlib.Core.Path.{refl}
-use Rattle.std.proofs.Common.{rules}
 use Rattle.csv_cells.proofs.is_quoted_data.Goals as goal
 
 pub returns : goal.returns

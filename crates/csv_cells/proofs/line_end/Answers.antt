@@ -3,7 +3,6 @@ use Prim.Native.Nat.{◌<◌}
 use native.Mathlib.Omega.{arith}
 use mathlib.Core.Bool.{false≢true}
 use Rattle.csv_cells.proofs.CellLaws.{break_end, break_short, break_none, break_there}
-use Rattle.std.proofs.Common.{rules}
 use Rattle.csv_cells.proofs.line_end.Goals as goal
 
 pub returns-then-stop-s : goal.returns-then-stop-s

@@ -1,6 +1,5 @@
 use native.Mathlib.Omega.{arith}
 use Rattle.csv_cells.proofs.CellLaws.{past_none, past_plain, past_quote, past_last}
-use Rattle.std.proofs.Common.{rules}
 use Rattle.csv_cells.proofs.past_byte.Goals as goal
 
 pub returns-then-inner-i : goal.returns-then-inner-i

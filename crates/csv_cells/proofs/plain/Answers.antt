@@ -1,5 +1,4 @@
 use mathlib.Core.Path.{refl}
-use Rattle.std.proofs.Common.{rules}
 use Rattle.csv_cells.proofs.plain.Goals as goal
 
 pub returns-then-is_text_data : goal.returns-then-is_text_data

@@ -1,14 +1,9 @@
 use Rattle.csv_cells.proofs.CellLaws.{fill_first, fill_next, fill_less, fill_done}
-use Rattle.csv_cells.specs.Cells.{filled_to}
 use Rattle.csv_cells.specs.Cells.{undoubled}
-use lib.Seq.{sets}
 use lib.ListN.{length, drop, length-set}
 use mathlib.Core.Bool.{false}
-use mathlib.Core.Path.{◌≡◌}
 use native.Mathlib.Omega.{arith}
-use Prim.Native.Nat.{◌+◌, ◌-◌, ◌≤◌}
 use mathlib.Core.Path.{refl, ◌∙◌}
-use Rattle.std.proofs.Common.{rules}
 use Rattle.csv_cells.proofs.put_text.Goals as goal
 
 pub loop-j-init : goal.loop-j-init

@@ -1,13 +1,10 @@
-use Rattle.csv_cells.proofs.CellLaws.{fill_first, fill_next, fill_less, fill_done}
 use Rattle.csv_cells.specs.Cells.{filled_to}
 use Rattle.csv_cells.specs.Cells.{undoubled}
 use lib.Seq.{sets}
-use lib.ListN.{length, drop, length-set}
+use lib.ListN.{length, drop}
 use mathlib.Core.Bool.{false}
 use mathlib.Core.Path.{◌≡◌}
-use native.Mathlib.Omega.{arith}
-use Prim.Native.Nat.{◌+◌, ◌-◌, ◌≤◌}
-use mathlib.Core.Path.{refl, ◌∙◌}
+use Prim.Native.Nat.{◌-◌, ◌≤◌}
 use Rattle.csv_cells.proofs.put_text.Given as goal
 
 abbrev pub invariant-loop-j : goal.invariant-loop-j

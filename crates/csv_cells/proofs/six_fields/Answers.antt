@@ -1,13 +1,9 @@
 use Rattle.csv_cells.proofs.CellLaws.{six_open, six_apart, six_on, stop_on, six_last_open, six_end, stop_end}
-use Rattle.csv_cells.specs.Cells.{fields_right, last_stop, size_by}
-use lib.ListN.{length}
+use Rattle.csv_cells.specs.Cells.{size_by}
 use mathlib.Core.Bool.{false≢true}
-use mathlib.Core.Path.{◌≡◌}
 use native.Mathlib.Omega.{arith}
-use Prim.Native.Nat.{◌+◌, ◌-◌, ◌≤◌}
 use borrow.Author.Tests.{not-true, not-false}
 use mathlib.Core.Path.{refl, sym, ◌∙◌, ap}
-use Rattle.std.proofs.Common.{rules}
 use Rattle.csv_cells.proofs.six_fields.Goals as goal
 
 pub loop-left-init : goal.loop-left-init

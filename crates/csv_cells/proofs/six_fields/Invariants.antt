@@ -1,12 +1,7 @@
-use Rattle.csv_cells.proofs.CellLaws.{six_open, six_apart, six_on, stop_on, six_last_open, six_end, stop_end}
-use Rattle.csv_cells.specs.Cells.{fields_right, last_stop, size_by}
+use Rattle.csv_cells.specs.Cells.{fields_right, last_stop}
 use lib.ListN.{length}
-use mathlib.Core.Bool.{false≢true}
 use mathlib.Core.Path.{◌≡◌}
-use native.Mathlib.Omega.{arith}
-use Prim.Native.Nat.{◌+◌, ◌-◌, ◌≤◌}
-use borrow.Author.Tests.{not-true, not-false}
-use mathlib.Core.Path.{refl, sym, ◌∙◌, ap}
+use Prim.Native.Nat.{◌≤◌}
 use Rattle.csv_cells.proofs.six_fields.Given as goal
 
 abbrev pub invariant-loop-left : goal.invariant-loop-left

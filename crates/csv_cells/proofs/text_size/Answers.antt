@@ -2,11 +2,8 @@ use Rattle.csv_cells.proofs.CellLaws.{text_some, text_end}
 use Rattle.csv_cells.specs.Cells.{undoubled}
 use lib.ListN.{length, drop, length-drop}
 use mathlib.Core.Bool.{false}
-use mathlib.Core.Path.{◌≡◌}
 use native.Mathlib.Omega.{arith}
-use Prim.Native.Nat.{◌+◌, ◌-◌, ◌≤◌}
 use mathlib.Core.Path.{ap}
-use Rattle.std.proofs.Common.{rules}
 use Rattle.csv_cells.proofs.text_size.Goals as goal
 
 pub loop-i-init : goal.loop-i-init

@@ -1,11 +1,8 @@
-use Rattle.csv_cells.proofs.CellLaws.{text_some, text_end}
 use Rattle.csv_cells.specs.Cells.{undoubled}
-use lib.ListN.{length, drop, length-drop}
+use lib.ListN.{length, drop}
 use mathlib.Core.Bool.{false}
 use mathlib.Core.Path.{◌≡◌}
-use native.Mathlib.Omega.{arith}
 use Prim.Native.Nat.{◌+◌, ◌-◌, ◌≤◌}
-use mathlib.Core.Path.{ap}
 use Rattle.csv_cells.proofs.text_size.Given as goal
 
 abbrev pub invariant-loop-i : goal.invariant-loop-i

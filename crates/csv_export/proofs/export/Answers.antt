@@ -7,7 +7,6 @@ use Rattle.table_form.proofs.ShapeLaws.{size_by_lem}
 use lib.ListN.{length}
 use native.Mathlib.Omega.{arith}
 use mathlib.Core.Path.{sym, ◌∙◌, ap}
-use Rattle.std.proofs.Common.{rules}
 use Rattle.csv_export.proofs.export.Goals as goal
 
 pub returns-in-Refused : goal.returns-in-Refused

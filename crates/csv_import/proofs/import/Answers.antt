@@ -2,11 +2,9 @@ use Rattle.csv_import.proofs.Judging.{rows_fit_lem, import_granted, import_size}
 use Rattle.table_write.proofs.WriteLaws.{judged_refused, no_room, granted}
 use Rattle.csv_entry.specs.Import.{import_answer, import_table}
 use lib.ListN.{length}
-use mathlib.Core.Path.{◌≡◌}
-use Prim.Native.Nat.{◌+◌, ◌*◌, ◌≤◌, ◌<◌}
+use Prim.Native.Nat.{◌<◌}
 use native.Mathlib.Omega.{arith}
 use mathlib.Core.Path.{sym, ◌∙◌}
-use Rattle.std.proofs.Common.{rules}
 use Rattle.csv_import.proofs.import.Goals as goal
 
 pub returns-in-Refused : goal.returns-in-Refused

@@ -3,13 +3,10 @@ use Rattle.view_laws.proofs.Answers.{not_granted}
 use Rattle.csv_cells.specs.Cells.{lines_in}
 use lib.ListN.{length}
 use lib.Dec.{leb, eqb}
-use mathlib.Core.Bool.{true, false, ◌&&◌}
-use mathlib.Core.Path.{◌≡◌}
-use Prim.Native.Nat.{◌≤◌, ◌<◌}
+use mathlib.Core.Bool.{◌&&◌}
+use Prim.Native.Nat.{◌<◌}
 use native.Mathlib.Omega.{arith}
-use borrow.Author.Tests.{not-true, not-false}
 use mathlib.Core.Path.{sym, ◌∙◌, ap}
-use Rattle.std.proofs.Common.{rules}
 use Rattle.csv_import.proofs.judge_list.Goals as goal
 
 pub returns-in-Refused : goal.returns-in-Refused

@@ -4,7 +4,6 @@ use Rattle.find_entry.proofs.Parts.{cut_out_lem}
 use Rattle.find_entry.proofs.Addenda.{part_inside}
 use native.Mathlib.Omega.{arith}
 use mathlib.Core.Path.{◌∙◌}
-use Rattle.std.proofs.Common.{rules}
 use Rattle.find_entry.proofs.addendum.Goals as goal
 
 pub overflow_add-end : goal.overflow_add-end

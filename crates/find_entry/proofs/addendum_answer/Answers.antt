@@ -1,7 +1,6 @@
 use Rattle.find_entry.proofs.Addenda.{asked_answer}
 use Rattle.find_entry.specs.WorkAsked.{asked_of}
 use mathlib.Core.Path.{◌∙◌, ap}
-use Rattle.std.proofs.Common.{rules}
 use Rattle.find_entry.proofs.addendum_answer.Goals as goal
 
 pub returns : goal.returns

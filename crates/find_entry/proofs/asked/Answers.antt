@@ -1,6 +1,5 @@
 use borrow.Author.Tests.{le-leb, lt-leb}
 use mathlib.Core.Path.{refl}
-use Rattle.std.proofs.Common.{rules}
 use Rattle.find_entry.proofs.asked.Goals as goal
 
 pub returns-then-k-lt1 : goal.returns-then-k-lt1

@@ -2,7 +2,6 @@ use lib.ListN.{length}
 use Rattle.find_entry.proofs.Addenda.{granted_there, part_there, part_none, part_refused, both, behind}
 use native.Mathlib.Omega.{arith}
 use mathlib.Core.Path.{sym, ◌∙◌}
-use Rattle.std.proofs.Common.{rules}
 use Rattle.find_entry.proofs.asked_span.Goals as goal
 
 pub entry_at-requires : goal.entry_at-requires

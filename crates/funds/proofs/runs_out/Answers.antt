@@ -1,11 +1,6 @@
 use Rattle.funds.proofs.AskLaws.{found_here, not_here, none_here}
-use Rattle.funds.specs.Funds.{runs_out, runs_out_from}
-use lib.ListN.{length, drop}
-use mathlib.Core.Path.{◌≡◌}
 use native.Mathlib.Omega.{arith}
-use Prim.Native.Nat.{◌+◌, ◌-◌, ◌*◌, ◌/◌, ◌≤◌}
 use mathlib.Core.Path.{refl}
-use Rattle.std.proofs.Common.{rules}
 use Rattle.funds.proofs.runs_out.Goals as goal
 
 pub loop-k-init : goal.loop-k-init

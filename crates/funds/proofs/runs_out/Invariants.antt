@@ -1,10 +1,7 @@
-use Rattle.funds.proofs.AskLaws.{found_here, not_here, none_here}
 use Rattle.funds.specs.Funds.{runs_out, runs_out_from}
 use lib.ListN.{length, drop}
 use mathlib.Core.Path.{◌≡◌}
-use native.Mathlib.Omega.{arith}
-use Prim.Native.Nat.{◌+◌, ◌-◌, ◌*◌, ◌/◌, ◌≤◌}
-use mathlib.Core.Path.{refl}
+use Prim.Native.Nat.{◌-◌, ◌*◌, ◌/◌, ◌≤◌}
 use Rattle.funds.proofs.runs_out.Given as goal
 
 abbrev pub invariant-loop-k : goal.invariant-loop-k

@@ -1,7 +1,6 @@
 use mathlib.Core.Path.{refl}
 use Rattle.layout.proofs.Tables.{inside, behind}
 use Rattle.layout.specs.Fields.{file_control}
-use Rattle.std.proofs.Common.{rules}
 use Rattle.layout.proofs.file_control_row.Goals as goal
 
 pub returns-then-k-lt8 : goal.returns-then-k-lt8

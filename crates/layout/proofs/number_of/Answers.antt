@@ -1,5 +1,4 @@
 use mathlib.Core.Path.{refl}
-use Rattle.std.proofs.Common.{rules}
 use Rattle.layout.proofs.number_of.Goals as goal
 
 pub returns-in-Length : goal.returns-in-Length

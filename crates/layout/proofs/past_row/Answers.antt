@@ -1,7 +1,6 @@
 use mathlib.Core.Path.{refl}
 use Rattle.layout.proofs.Tables.{inside, behind}
 use Rattle.layout.specs.Fields.{past}
-use Rattle.std.proofs.Common.{rules}
 use Rattle.layout.proofs.past_row.Goals as goal
 
 pub returns-then-k-lt1 : goal.returns-then-k-lt1

@@ -1,5 +1,4 @@
 use mathlib.Core.Path.{refl}
-use Rattle.std.proofs.Common.{rules}
 use Rattle.layout.proofs.record_bytes.Goals as goal
 
 pub returns-in-Plain : goal.returns-in-Plain

@@ -1,9 +1,6 @@
-use Rattle.mend.specs.Mend.{mended_record}
-use lib.Seq.{length-take-le}
 use Rattle.mend_file.proofs.ListLaws.{control_none, control_listed}
 use Rattle.mend_file.proofs.FieldLaws.{none_listed}
 use native.Mathlib.Omega.{arith}
-use Rattle.std.proofs.Common.{rules}
 use Rattle.mend_file.proofs.control_listed.Goals as goal
 
 pub returns-then-raw-ne56 : goal.returns-then-raw-ne56

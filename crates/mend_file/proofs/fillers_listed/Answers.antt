@@ -1,6 +1,5 @@
 use Rattle.mend_file.proofs.FillerLaws.{none_bytes, some_bytes}
 use native.Mathlib.Omega.{arith}
-use Rattle.std.proofs.Common.{rules}
 use Rattle.mend_file.proofs.fillers_listed.Goals as goal
 
 pub returns-then-old-new : goal.returns-then-old-new

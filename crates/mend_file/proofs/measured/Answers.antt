@@ -1,19 +1,15 @@
-use Rattle.view.specs.View.{fillers_after}
-use Rattle.layout.specs.Fields.{file_control}
-use Rattle.mend.specs.Mend.{field_changes, filler_changes}
+use Rattle.mend.specs.Mend.{filler_changes}
 use Rattle.text.specs.Rows.{joined}
-use Rattle.mend_file.specs.WorkChanging.{listed_of, file_rows, filler_rows}
 use mathlib.Core.Path.{ap₂}
 use Rattle.mend_file.proofs.WholeLaws.{nine_room, file_listed, filler_rows_lem, changes_long, place_fits, old_enough, small_bytes}
 use Rattle.mend_file.proofs.JudgeLaws.{nine_few}
 use Rattle.mend.proofs.Again.{file_long}
 use Rattle.check_record.proofs.Ways.{raw_long}
 use Rattle.layout.specs.Ways.{record_bytes}
-use lib.ListN.{length, take, drop}
+use lib.ListN.{length}
 use native.Mathlib.Omega.{arith}
-use Prim.Native.Nat.{◌+◌, ◌-◌, ◌*◌, ◌/◌, ◌≤◌, ◌<◌}
+use Prim.Native.Nat.{◌-◌, ◌*◌, ◌/◌}
 use mathlib.Core.Path.{sym, ◌∙◌, ap}
-use Rattle.std.proofs.Common.{rules}
 use Rattle.mend_file.proofs.measured.Goals as goal
 
 pub overflow_mul-at : goal.overflow_mul-at

@@ -1,11 +1,7 @@
 use Rattle.mend_file.proofs.MendLaws.{mends_refused, file_room, list_room, mends_granted, mended_front, mended_long}
 use Rattle.table_read.proofs.Writing.{puts_long}
-use Rattle.table_read.specs.WorkPuts.{Puts, Room}
-use lib.ListN.{length, take, drop}
 use native.Mathlib.Omega.{arith}
-use Prim.Native.Nat.{◌-◌}
 use mathlib.Core.Path.{sym, ◌∙◌}
-use Rattle.std.proofs.Common.{rules}
 use Rattle.mend_file.proofs.mend.Goals as goal
 
 pub returns-in-Refused : goal.returns-in-Refused

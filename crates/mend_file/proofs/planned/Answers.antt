@@ -5,14 +5,11 @@ use Rattle.mend.proofs.Granted.{refused_length, refused_mended, refused_behind, 
 use Rattle.mend.specs.Mend.{mended_file, changes_of}
 use Rattle.view_laws.proofs.BridgeSound.{refused_not}
 use Rattle.view_laws.proofs.Answers.{not_granted}
-use Rattle.view.specs.View.{fillers_after}
 use Rattle.layout.specs.declared.Fault.{Fault}
 use lib.ListN.{length}
 use lib.Dec.{leb}
-use borrow.Author.Tests.{not-true, not-false}
 use native.Mathlib.Omega.{arith}
 use mathlib.Core.Path.{sym, ◌∙◌}
-use Rattle.std.proofs.Common.{rules}
 use Rattle.mend_file.proofs.planned.Goals as goal
 
 pub returns-then-not-whole_records : goal.returns-then-not-whole_records

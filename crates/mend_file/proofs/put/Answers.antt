@@ -1,22 +1,14 @@
 use Rattle.mend_file.proofs.WholeLaws.{nine_room, mended_room, place_fits, old_enough, before_room, count_room, batches_room, ninth_room, fields_room, fillers_room, all_put}
 use mathlib.Core.Path.{refl}
-use Rattle.mend_file.proofs.WholeLaws.{nine_room, mended_room, place_fits, old_enough, before_room, batch_put, file_put, filler_rows_lem}
-use Rattle.mend_file.specs.WorkChanging.{batch_rows, file_rows, filler_rows}
+use Rattle.mend_file.proofs.WholeLaws.{nine_room, mended_room, place_fits, old_enough, before_room}
 use Rattle.view.specs.View.{fillers_after}
-use Rattle.mend.specs.Mend.{field_changes, filler_changes}
-use Rattle.table_read.proofs.Writing.{puts_both, puts_long, room_front, room_rest}
-use Rattle.table_read.specs.WorkPuts.{Puts, Room}
+use Rattle.table_read.proofs.Writing.{puts_long}
 use Rattle.mend_file.proofs.JudgeLaws.{nine_few}
 use Rattle.check_record.proofs.Ways.{raw_long}
 use Rattle.layout.specs.Ways.{record_bytes}
-use Rattle.layout.specs.Fields.{file_control}
-use Rattle.text.specs.Rows.{joined, section}
-use Rattle.text.specs.Decimal.{render}
-use lib.ListN.{length, take, drop}
-use mathlib.Core.List.{◌++◌}
+use lib.ListN.{length}
 use native.Mathlib.Omega.{arith}
-use Prim.Native.Nat.{◌+◌, ◌-◌, ◌*◌, ◌/◌, ◌≤◌, ◌<◌}
-use Rattle.std.proofs.Common.{rules}
+use Prim.Native.Nat.{◌+◌, ◌*◌}
 use Rattle.mend_file.proofs.put.Goals as goal
 
 pub overflow_mul-at : goal.overflow_mul-at

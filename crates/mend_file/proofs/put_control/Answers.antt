@@ -1,10 +1,6 @@
 use Rattle.mend_file.proofs.ListLaws.{control_none, control_eight}
 use Rattle.mend_file.proofs.FieldLaws.{row_nothing}
 use Rattle.table_read.proofs.Writing.{puts_none}
-use Rattle.table_read.specs.WorkPuts.{Puts, Room}
-use Rattle.text.specs.Rows.{joined}
-use native.Mathlib.Omega.{arith}
-use Rattle.std.proofs.Common.{rules}
 use Rattle.mend_file.proofs.put_control.Goals as goal
 
 pub returns-then-old-ne56 : goal.returns-then-old-ne56

@@ -1,11 +1,10 @@
-use Rattle.mend_file.proofs.ListLaws.{Controls, controls_first, old_room, new_room, control_room, controls_on, controls_done}
+use Rattle.mend_file.proofs.ListLaws.{controls_first, old_room, new_room, control_room, controls_on, controls_done}
 use Rattle.table_read.proofs.Writing.{left_long}
 use Rattle.check_record.proofs.Ways.{raw_long}
 use lib.ListN.{length, take, drop}
 use native.Mathlib.Omega.{arith}
-use Prim.Native.Nat.{◌+◌, ◌-◌, ◌≤◌, ◌<◌}
+use Prim.Native.Nat.{◌+◌, ◌-◌}
 use mathlib.Core.Path.{◌∙◌, ap}
-use Rattle.std.proofs.Common.{rules}
 use Rattle.mend_file.proofs.put_controls.Goals as goal
 
 pub loop-i-init : goal.loop-i-init

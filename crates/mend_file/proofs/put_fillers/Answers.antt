@@ -1,10 +1,7 @@
 use Rattle.mend_file.proofs.FillerLaws.{old_fillers, none_section, some_section}
 use Rattle.table_read.proofs.Writing.{puts_both, room_front, room_rest}
-use Rattle.table_read.specs.WorkPuts.{Puts, Room}
 use Rattle.text.specs.Decimal.{render}
 use mathlib.Core.List.{◌++◌}
-use native.Mathlib.Omega.{arith}
-use Rattle.std.proofs.Common.{rules}
 use Rattle.mend_file.proofs.put_fillers.Goals as goal
 
 pub put_digits-requires : goal.put_digits-requires

@@ -1,11 +1,6 @@
 use Rattle.mend_file.proofs.FillerLaws.{plus_put, plus_test, old_room}
-use Rattle.table_read.specs.WorkPuts.{Puts, Room}
-use Rattle.text.specs.Decimal.{render}
-use lib.Dec.{leb}
-use mathlib.Core.Bool.{false}
 use borrow.Author.Tests.{le-leb}
 use native.Mathlib.Omega.{arith}
-use Rattle.std.proofs.Common.{rules}
 use Rattle.mend_file.proofs.put_old_fillers.Goals as goal
 
 pub put_digits-requires : goal.put_digits-requires

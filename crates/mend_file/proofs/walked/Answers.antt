@@ -1,12 +1,10 @@
 use mathlib.Core.Path.{sym, ◌∙◌, ap}
-use Rattle.mend_file.proofs.ListLaws.{Sizing, sizing_first, sizing_inside, sizing_few, sizing_on, sizing_done}
+use Rattle.mend_file.proofs.ListLaws.{sizing_first, sizing_inside, sizing_few, sizing_on, sizing_done}
 use lib.Seq.{length-take-le}
 use Rattle.check_record.proofs.Ways.{raw_long}
-use Rattle.layout.specs.Ways.{record_bytes}
 use lib.ListN.{length, take, drop}
 use native.Mathlib.Omega.{arith}
-use Prim.Native.Nat.{◌+◌, ◌-◌, ◌≤◌, ◌<◌}
-use Rattle.std.proofs.Common.{rules}
+use Prim.Native.Nat.{◌+◌, ◌-◌}
 use Rattle.mend_file.proofs.walked.Goals as goal
 
 pub loop-left-init : goal.loop-left-init

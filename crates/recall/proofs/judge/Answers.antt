@@ -3,12 +3,8 @@ use Rattle.recall.proofs.CountLaws.{counted_whole}
 use Rattle.recall_close.proofs.MarkLaws.{some_without}
 use Rattle.view_laws.proofs.Answers.{not_granted}
 use Rattle.view.specs.View.{view_of}
-use borrow.Author.Tests.{not-true, not-false}
-use mathlib.Core.Path.{◌≡◌}
 use native.Mathlib.Omega.{arith}
-use Prim.Native.Nat.{◌+◌, ◌*◌, ◌≤◌, ◌<◌}
 use mathlib.Core.Path.{sym, ◌∙◌}
-use Rattle.std.proofs.Common.{rules}
 use Rattle.recall.proofs.judge.Goals as goal
 
 pub mark-requires : goal.mark-requires

@@ -1,5 +1,4 @@
 use Rattle.recall.proofs.OutLaws.{body_told, told_few, out_refused, new_accepted, new_room, out_granted, front_fits, front_new, front_long, front_blanks}
-use mathlib.Core.Path.{◌≡◌}
 use native.Mathlib.Omega.{arith}
 use mathlib.Core.Path.{refl, sym, ◌∙◌}
 use Rattle.std.proofs.Common.{rules}

@@ -3,7 +3,6 @@ use Rattle.layout.specs.declared.Checked.{Checked}
 use lib.ListN.{length, length-replicate}
 use Prim.Native.Nat.{ℕ}
 use mathlib.Core.Path.{sym, ◌∙◌, ap}
-use Rattle.std.proofs.Common.{rules}
 use Rattle.recall.proofs.take_out.Goals as goal
 
 pub returns-in-Refused : goal.returns-in-Refused

@@ -1,13 +1,11 @@
 use lib.Seq.{drop-length}
 use lib.ListN.{set}
 use borrow.Author.Fill.{fill_none, fill_more}
-use lib.ListN.{length, drop, replicate, length-set, drop_of_length-le}
+use lib.ListN.{length, drop, replicate, length-set}
 use mathlib.Core.List.{◌++◌, append-nil}
 use mathlib.Core.Path.{◌≡◌}
 use native.Mathlib.Omega.{arith}
-use Prim.Native.Nat.{◌-◌, ◌≤◌}
 use mathlib.Core.Path.{refl, ◌∙◌, ap}
-use Rattle.std.proofs.Common.{rules}
 use Rattle.recall_close.proofs.blank.Goals as goal
 
 pub loop-i-init : goal.loop-i-init

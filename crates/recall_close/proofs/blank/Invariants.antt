@@ -1,12 +1,7 @@
-use lib.Seq.{drop-length}
-use lib.ListN.{set}
-use borrow.Author.Fill.{fill_none, fill_more}
-use lib.ListN.{length, drop, replicate, length-set, drop_of_length-le}
-use mathlib.Core.List.{◌++◌, append-nil}
+use lib.ListN.{length, drop, replicate}
+use mathlib.Core.List.{◌++◌}
 use mathlib.Core.Path.{◌≡◌}
-use native.Mathlib.Omega.{arith}
 use Prim.Native.Nat.{◌-◌, ◌≤◌}
-use mathlib.Core.Path.{refl, ◌∙◌, ap}
 use Rattle.recall_close.proofs.blank.Given as goal
 
 abbrev pub invariant-loop-i : goal.invariant-loop-i

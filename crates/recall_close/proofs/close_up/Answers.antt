@@ -1,8 +1,5 @@
-use Rattle.recall_close.proofs.CloseLaws.{Along, along_first, along_inside, along_room, along_next, along_end, read_long, old_few}
-use mathlib.Core.Path.{◌≡◌}
+use Rattle.recall_close.proofs.CloseLaws.{along_first, along_inside, along_room, along_next, along_end, read_long, old_few}
 use native.Mathlib.Omega.{arith}
-use Prim.Native.Nat.{◌+◌, ◌-◌, ◌≤◌, ◌<◌}
-use Rattle.std.proofs.Common.{rules}
 use Rattle.recall_close.proofs.close_up.Goals as goal
 
 pub loop-i-init : goal.loop-i-init

@@ -1,7 +1,5 @@
-use Rattle.recall_close.proofs.CloseLaws.{Along, along_first, along_inside, along_room, along_next, along_end, read_long, old_few}
-use mathlib.Core.Path.{◌≡◌}
-use native.Mathlib.Omega.{arith}
-use Prim.Native.Nat.{◌+◌, ◌-◌, ◌≤◌, ◌<◌}
+use Rattle.recall_close.proofs.CloseLaws.{Along}
+use Prim.Native.Nat.{◌-◌, ◌≤◌}
 use Rattle.recall_close.proofs.close_up.Given as goal
 
 abbrev pub invariant-loop-i : goal.invariant-loop-i

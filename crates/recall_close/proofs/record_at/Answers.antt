@@ -1,13 +1,9 @@
 use Rattle.recall_close.proofs.CloseLaws.{read_out}
 use mathlib.Core.Path.{refl, ap}
-use Rattle.find_entry.proofs.Parts.{on, cut_out_lem}
-use Rattle.layout.specs.Ways.{record_bytes}
-use lib.ListN.{length}
-use mathlib.Core.Path.{◌≡◌}
+use Rattle.find_entry.proofs.Parts.{on}
 use native.Mathlib.Omega.{arith}
-use Prim.Native.Nat.{◌+◌, ◌*◌, ◌≤◌}
+use Prim.Native.Nat.{◌*◌}
 use mathlib.Core.Path.{◌∙◌}
-use Rattle.std.proofs.Common.{rules}
 use Rattle.recall_close.proofs.record_at.Goals as goal
 
 pub overflow_mul-at : goal.overflow_mul-at

@@ -1,11 +1,8 @@
 use Rattle.recall_close.proofs.CloseLaws.{end_few, end_inside, size_inside, size_whole, blanked}
-use lib.ListN.{length}
 use mathlib.Core.List.{[]}
-use mathlib.Core.Path.{◌≡◌}
 use native.Mathlib.Omega.{arith}
-use Prim.Native.Nat.{◌+◌, ◌-◌, ◌*◌, ◌≤◌}
+use Prim.Native.Nat.{◌*◌}
 use mathlib.Core.Path.{ap}
-use Rattle.std.proofs.Common.{rules}
 use Rattle.recall_close.proofs.shorten.Goals as goal
 
 pub end_file-requires : goal.end_file-requires

@@ -1,6 +1,5 @@
 use Rattle.table_read.proofs.Outcomes.{accepted, read_refused, read_short, read_room, read_made}
 use native.Mathlib.Omega.{arith}
-use Rattle.std.proofs.Common.{rules}
 use Rattle.table_read.proofs.read.Goals as goal
 
 pub returns-in-Refused : goal.returns-in-Refused

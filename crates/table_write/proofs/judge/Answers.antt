@@ -1,8 +1,6 @@
 use Rattle.table_write.proofs.WriteLaws.{wrong_shape, shape_passed, too_many}
 use native.Mathlib.Omega.{arith}
-use borrow.Author.Tests.{not-true, not-false}
 use mathlib.Core.Path.{sym, ◌∙◌}
-use Rattle.std.proofs.Common.{rules}
 use Rattle.table_write.proofs.judge.Goals as goal
 
 pub returns-then-not-shaped : goal.returns-then-not-shaped

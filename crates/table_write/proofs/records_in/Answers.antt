@@ -4,7 +4,6 @@ use Prim.Native.Nat.{◌+◌, ◌*◌}
 use mathlib.Core.Path.{◌≡◌}
 use native.Mathlib.Omega.{arith}
 use mathlib.Core.Path.{sym}
-use Rattle.std.proofs.Common.{rules}
 use Rattle.table_write.proofs.records_in.Goals as goal
 
 pub sections-s-requires : goal.sections-s-requires

@@ -1,12 +1,10 @@
 use Rattle.table_write.specs.Judge.{writable}
 use Rattle.view.specs.Table.{formed}
 use Rattle.table_write.proofs.WriteLaws.{shape_right, file_right, not_many, formed_length, size_fits, judged_refused, no_room, granted, write_gives}
-use lib.ListN.{length}
 use Prim.Native.Nat.{◌*◌}
-use mathlib.Core.Path.{◌≡◌, ap₂}
+use mathlib.Core.Path.{ap₂}
 use native.Mathlib.Omega.{arith}
 use mathlib.Core.Path.{sym, ◌∙◌}
-use Rattle.std.proofs.Common.{rules}
 use Rattle.table_write.proofs.write.Goals as goal
 
 pub returns-in-Refused : goal.returns-in-Refused

@@ -1,9 +1,5 @@
-use mathlib.Core.Path.{◌≡◌, refl}
-use mathlib.Core.Bool.{◌&&◌}
-use Prim.Native.Nat.{◌≤◌, ◌-◌}
+use mathlib.Core.Path.{refl}
 use lib.Dec.{eqb}
-use lib.ListN.{length, drop}
-use Rattle.text.specs.Decimal.{every}
 use Rattle.text.proofs.DecimalLaws.{every_turn, every_end}
 use Rattle.std.proofs.Common.{rules}
 use Rattle.text.proofs.all_are.Goals as goal

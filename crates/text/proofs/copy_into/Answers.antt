@@ -1,8 +1,6 @@
-use mathlib.Core.Path.{◌≡◌, refl, ◌∙◌}
-use Prim.Native.Nat.{◌≤◌, ◌+◌, ◌-◌}
+use mathlib.Core.Path.{refl, ◌∙◌}
 use native.Mathlib.Nat.{add-zero}
-use lib.ListN.{length, drop, drop_of_length-le}
-use lib.Seq.{sets}
+use lib.ListN.{drop_of_length-le}
 use Rattle.text.proofs.SetLaws.{sets_next}
 use Rattle.std.proofs.Common.{rules}
 use Rattle.text.proofs.copy_into.Goals as goal

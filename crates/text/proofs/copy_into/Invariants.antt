@@ -1,9 +1,7 @@
-use mathlib.Core.Path.{◌≡◌, refl, ◌∙◌}
+use mathlib.Core.Path.{◌≡◌}
 use Prim.Native.Nat.{◌≤◌, ◌+◌, ◌-◌}
-use native.Mathlib.Nat.{add-zero}
-use lib.ListN.{length, drop, drop_of_length-le}
+use lib.ListN.{length, drop}
 use lib.Seq.{sets}
-use Rattle.text.proofs.SetLaws.{sets_next}
 use Rattle.text.proofs.copy_into.Given as goal
 
 abbrev pub invariant-loop-i : goal.invariant-loop-i

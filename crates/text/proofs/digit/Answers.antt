@@ -1,6 +1,5 @@
 use native.Mathlib.Omega.{arith}
 use Rattle.text.proofs.DecimalLaws.{digit_range}
-use Rattle.std.proofs.Common.{rules}
 use Rattle.text.proofs.digit.Goals as goal
 
 pub overflow_sub-b : goal.overflow_sub-b

@@ -1,8 +1,5 @@
-use mathlib.Core.Path.{◌≡◌, refl}
-use mathlib.Core.Bool.{◌&&◌}
-use Prim.Native.Nat.{◌≤◌, ◌-◌}
-use lib.ListN.{length, drop}
-use Rattle.text.specs.Decimal.{every, is_digit}
+use mathlib.Core.Path.{refl}
+use Rattle.text.specs.Decimal.{is_digit}
 use Rattle.text.proofs.DecimalLaws.{every_turn, every_end}
 use Rattle.std.proofs.Common.{rules}
 use Rattle.text.proofs.digits.Goals as goal

@@ -1,9 +1,8 @@
-use mathlib.Core.Path.{◌≡◌, refl}
+use mathlib.Core.Path.{◌≡◌}
 use mathlib.Core.Bool.{◌&&◌}
 use Prim.Native.Nat.{◌≤◌, ◌-◌}
 use lib.ListN.{length, drop}
 use Rattle.text.specs.Decimal.{every, is_digit}
-use Rattle.text.proofs.DecimalLaws.{every_turn, every_end}
 use Rattle.text.proofs.digits.Given as goal
 
 abbrev pub invariant-loop-i : goal.invariant-loop-i

@@ -1,10 +1,10 @@
-use mathlib.Core.Path.{◌≡◌, refl, sym, ◌∙◌}
-use Prim.Native.Nat.{ℕ, ◌≤◌, ◌<◌, ◌+◌, ◌-◌, ◌*◌, ◌^◌}
+use mathlib.Core.Path.{refl, sym, ◌∙◌}
+use Prim.Native.Nat.{ℕ, ◌≤◌, ◌<◌, ◌+◌, ◌*◌, ◌^◌}
 use native.Mathlib.Nat.{pow-le-pow_right}
 use native.Mathlib.Omega.{arith}
 use lib.Dec.{lit<}
-use lib.ListN.{length, drop, get_or}
-use Rattle.text.specs.Decimal.{digit_of, value_from, value}
+use lib.ListN.{get_or}
+use Rattle.text.specs.Decimal.{digit_of}
 use Rattle.text.proofs.DecimalLaws.{digit_of_lt, digits_more, value_next, value_end}
 use Rattle.std.proofs.Common.{rules}
 use Rattle.text.proofs.number.Goals as goal

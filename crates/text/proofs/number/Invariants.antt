@@ -1,11 +1,7 @@
-use mathlib.Core.Path.{◌≡◌, refl, sym, ◌∙◌}
-use Prim.Native.Nat.{ℕ, ◌≤◌, ◌<◌, ◌+◌, ◌-◌, ◌*◌, ◌^◌}
-use native.Mathlib.Nat.{pow-le-pow_right}
-use native.Mathlib.Omega.{arith}
-use lib.Dec.{lit<}
-use lib.ListN.{length, drop, get_or}
-use Rattle.text.specs.Decimal.{digit_of, value_from, value}
-use Rattle.text.proofs.DecimalLaws.{digit_of_lt, digits_more, value_next, value_end}
+use mathlib.Core.Path.{◌≡◌}
+use Prim.Native.Nat.{◌≤◌, ◌<◌, ◌-◌, ◌^◌}
+use lib.ListN.{length, drop}
+use Rattle.text.specs.Decimal.{value_from, value}
 use Rattle.text.proofs.number.Given as goal
 
 abbrev pub invariant-loop-i : goal.invariant-loop-i

@@ -1,9 +1,7 @@
-use mathlib.Core.Path.{◌≡◌, refl, ◌∙◌}
-use mathlib.Core.List.{◌++◌, append-nil}
-use Prim.Native.Nat.{◌≤◌}
+use mathlib.Core.Path.{refl, ◌∙◌}
+use mathlib.Core.List.{append-nil}
 use native.Mathlib.Omega.{arith}
 use lib.Arith.{le-zero}
-use lib.ListN.{length, drop}
 use lib.Seq.{drop-length}
 use Rattle.text.specs.Decimal.{render}
 use Rattle.text.proofs.DecimalLaws.{render_turn}

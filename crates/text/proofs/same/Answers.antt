@@ -1,9 +1,5 @@
-use mathlib.Core.Path.{◌≡◌, refl, sym}
-use mathlib.Core.Bool.{◌&&◌}
-use Prim.Native.Nat.{◌≤◌, ◌-◌}
+use mathlib.Core.Path.{refl, sym}
 use native.Mathlib.Omega.{arith}
-use lib.ListN.{length, drop}
-use Rattle.text.specs.Same.{same_bytes}
 use Rattle.text.proofs.DecimalLaws.{same_turn, same_end, same_length}
 use Rattle.std.proofs.Common.{rules}
 use Rattle.text.proofs.same.Goals as goal

@@ -1,7 +1,6 @@
 use Rattle.ach.proofs.ToldLaws.{number_range}
 use native.Mathlib.Omega.{arith}
 use mathlib.Core.Path.{refl, ◌∙◌}
-use Rattle.std.proofs.Common.{rules}
 use Rattle.ach.proofs.told.code_of.Goals as goal
 
 pub packed-requires : goal.packed-requires

@@ -1,10 +1,7 @@
-use Rattle.text.proofs.SetLaws.{sets_next}
 use lib.Seq.{sets}
-use lib.ListN.{length, drop, drop_of_length-le}
-use native.Mathlib.Omega.{arith}
+use lib.ListN.{drop}
 use mathlib.Core.Path.{◌≡◌}
 use Prim.Native.Nat.{◌+◌, ◌-◌, ◌≤◌}
-use mathlib.Core.Path.{refl, ◌∙◌}
 use Rattle.ach.proofs.told.put_rows.Given as goal
 
 abbrev pub invariant-loop-i : goal.invariant-loop-i

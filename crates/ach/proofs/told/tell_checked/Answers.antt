@@ -1,6 +1,5 @@
 use Rattle.ach.proofs.ToldLaws.{granted_left, refused_left}
 use mathlib.Core.Path.{refl, ◌∙◌}
-use Rattle.std.proofs.Common.{rules}
 use Rattle.ach.proofs.told.tell_checked.Goals as goal
 
 pub returns-in-Granted : goal.returns-in-Granted

@@ -1,6 +1,5 @@
 use borrow.Author.Tests.{eq-eqb, ne_eqb}
 use mathlib.Core.Path.{refl}
-use Rattle.std.proofs.Common.{rules}
 use Rattle.ach.proofs.told.way_of.Goals as goal
 
 pub returns-then-number-eq0 : goal.returns-then-number-eq0

@@ -2,7 +2,6 @@ use Rattle.alter.proofs.AmountLaws.{refused_first}
 use Rattle.find_entry.proofs.Addenda.{asked_answer, granted_there}
 use Rattle.find_entry.specs.WorkAsked.{asked_of}
 use mathlib.Core.Path.{sym, ◌∙◌, ap}
-use Rattle.std.proofs.Common.{rules}
 use Rattle.alter.proofs.altering.alter_accepted.Goals as goal
 
 pub alter_there-requires : goal.alter_there-requires

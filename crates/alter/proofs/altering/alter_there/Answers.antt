@@ -5,9 +5,7 @@ use Prim.Native.Nat.{◌+◌}
 use Rattle.alter.proofs.AmountLaws.{amount_refused, debit_alters, credit_alters}
 use Rattle.alter.proofs.ExchangeLaws.{comes_as}
 use Rattle.check_codes.specs.Codes.{carries}
-use borrow.Author.Tests.{not-true, not-false}
 use mathlib.Core.Path.{sym, ◌∙◌, ap}
-use Rattle.std.proofs.Common.{rules}
 use Rattle.alter.proofs.altering.alter_there.Goals as goal
 
 pub entry_said-said-requires : goal.entry_said-said-requires

@@ -5,7 +5,6 @@ use lib.ListN.{take, drop, length}
 use Prim.Native.Nat.{◌+◌, ◌*◌}
 use native.Mathlib.Omega.{arith}
 use mathlib.Core.Path.{◌∙◌, ap}
-use Rattle.std.proofs.Common.{rules}
 use Rattle.alter.proofs.sides.batch_total.Goals as goal
 
 pub overflow_mul-at : goal.overflow_mul-at

@@ -1,5 +1,4 @@
 use Rattle.alter.proofs.Signed.{fits_signed, is_difference}
-use Rattle.std.proofs.Common.{rules}
 use Rattle.alter.proofs.sides.difference.Goals as goal
 
 pub overflow_sub-result : goal.overflow_sub-result

@@ -3,7 +3,6 @@ use Rattle.check_across.specs.Across.{entry_code, entry_amount}
 use Rattle.check_codes.specs.Codes.{code_of}
 use native.Mathlib.Omega.{arith}
 use mathlib.Core.Path.{◌∙◌, ap}
-use Rattle.std.proofs.Common.{rules}
 use Rattle.alter.proofs.sides.entry_said.Goals as goal
 
 pub overflow_mul-at : goal.overflow_mul-at

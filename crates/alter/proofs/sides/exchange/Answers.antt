@@ -2,7 +2,6 @@ use Rattle.alter.proofs.ExchangeLaws.{exchanged, not_exchanged}
 use mir.ValLaws.{to_z-of_z}
 use mir.Syntax.{w64}
 use mathlib.Core.Path.{◌∙◌}
-use Rattle.std.proofs.Common.{rules}
 use Rattle.alter.proofs.sides.exchange.Goals as goal
 
 pub returns-in-Granted : goal.returns-in-Granted

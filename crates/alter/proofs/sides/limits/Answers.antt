@@ -1,6 +1,5 @@
 use borrow.Author.Tests.{le-leb, lt-leb}
 use mathlib.Core.Path.{refl}
-use Rattle.std.proofs.Common.{rules}
 use Rattle.alter.proofs.sides.limits.Goals as goal
 
 pub returns-then-batch-gt-LIMIT : goal.returns-then-batch-gt-LIMIT

@@ -6,7 +6,6 @@ use lib.Seq.{length-sets}
 use lib.ListN.{length}
 use native.Mathlib.Omega.{arith}
 use mathlib.Core.Path.{refl}
-use Rattle.std.proofs.Common.{rules}
 use Rattle.alter.proofs.sides.put.Goals as goal
 
 pub overflow_mul-wide : goal.overflow_mul-wide

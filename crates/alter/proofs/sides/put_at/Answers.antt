@@ -1,5 +1,4 @@
 use Rattle.find_entry.proofs.Parts.{put_there}
-use Rattle.std.proofs.Common.{rules}
 use Rattle.alter.proofs.sides.put_at.Goals as goal
 
 pub returns : goal.returns

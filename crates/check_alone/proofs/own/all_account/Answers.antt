@@ -1,10 +1,6 @@
 use Rattle.check_alone.specs.Own.{is_account}
 use Rattle.text.proofs.DecimalLaws.{every_turn, every_end}
-use Rattle.text.specs.Decimal.{every}
-use mathlib.Core.Path.{◌≡◌, refl}
-use lib.ListN.{length, drop}
-use Prim.Native.Nat.{◌≤◌, ◌-◌}
-use mathlib.Core.Bool.{◌&&◌}
+use mathlib.Core.Path.{refl}
 use Rattle.std.proofs.Common.{rules}
 use Rattle.check_alone.proofs.own.all_account.Goals as goal
 

@@ -1,7 +1,6 @@
 use Rattle.check_alone.specs.Own.{is_account}
-use Rattle.text.proofs.DecimalLaws.{every_turn, every_end}
 use Rattle.text.specs.Decimal.{every}
-use mathlib.Core.Path.{◌≡◌, refl}
+use mathlib.Core.Path.{◌≡◌}
 use lib.ListN.{length, drop}
 use Prim.Native.Nat.{◌≤◌, ◌-◌}
 use mathlib.Core.Bool.{◌&&◌}

@@ -1,6 +1,5 @@
-use borrow.Author.Tests.{le-leb, lt-leb, not-true, not-false}
+use borrow.Author.Tests.{le-leb, lt-leb}
 use mathlib.Core.Path.{refl}
-use Rattle.std.proofs.Common.{rules}
 use Rattle.check_alone.proofs.own.bank.Goals as goal
 
 pub returns-then-not-digits : goal.returns-then-not-digits

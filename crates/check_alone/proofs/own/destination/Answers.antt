@@ -1,6 +1,5 @@
 use Rattle.check_digit.proofs.GroupLaws.{digit_told, below}
 use Rattle.text.specs.Rows.{columns}
-use borrow.Author.Tests.{not-true, not-false}
 use mathlib.Core.Path.{refl}
 use Rattle.std.proofs.Common.{rules}
 use Rattle.check_alone.proofs.own.destination.Goals as goal

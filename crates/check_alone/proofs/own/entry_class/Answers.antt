@@ -1,5 +1,4 @@
 use mathlib.Core.Path.{refl}
-use Rattle.std.proofs.Common.{rules}
 use Rattle.check_alone.proofs.own.entry_class.Goals as goal
 
 pub returns-then-same : goal.returns-then-same

@@ -1,5 +1,4 @@
 use mathlib.Core.Path.{refl}
-use Rattle.std.proofs.Common.{rules}
 use Rattle.check_alone.proofs.own.is_account.Goals as goal
 
 pub returns : goal.returns

@@ -1,5 +1,4 @@
 use mathlib.Core.Path.{refl}
-use Rattle.std.proofs.Common.{rules}
 use Rattle.check_alone.proofs.own.modifier.Goals as goal
 
 pub returns-then-b-is_digit : goal.returns-then-b-is_digit

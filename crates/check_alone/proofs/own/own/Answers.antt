@@ -1,6 +1,5 @@
 use borrow.Author.Tests.{eqb-true, leb-true}
 use mathlib.Core.Path.{refl}
-use Rattle.std.proofs.Common.{rules}
 use Rattle.check_alone.proofs.own.own.Goals as goal
 
 pub destination-requires : goal.destination-requires

@@ -1,11 +1,5 @@
-use Rattle.check_alone.proofs.OwnLaws.{pairs_from, pairs_start, pairs_turn, pairs_end}
-use Rattle.check_alone.specs.Own.{unbroken}
+use Rattle.check_alone.proofs.OwnLaws.{pairs_start, pairs_turn, pairs_end}
 use native.Mathlib.Omega.{arith}
-use mathlib.Core.Path.{◌≡◌}
-use lib.ListN.{length, drop, get_or}
-use Prim.Native.Nat.{◌≤◌, ◌-◌}
-use mathlib.Core.Bool.{◌&&◌}
-use Rattle.std.proofs.Common.{rules}
 use Rattle.check_alone.proofs.own.unbroken.Goals as goal
 
 pub loop-i-init : goal.loop-i-init

@@ -1,6 +1,5 @@
-use Rattle.check_alone.proofs.OwnLaws.{pairs_from, pairs_start, pairs_turn, pairs_end}
+use Rattle.check_alone.proofs.OwnLaws.{pairs_from}
 use Rattle.check_alone.specs.Own.{unbroken}
-use native.Mathlib.Omega.{arith}
 use mathlib.Core.Path.{◌≡◌}
 use lib.ListN.{length, drop, get_or}
 use Prim.Native.Nat.{◌≤◌, ◌-◌}

@@ -1,10 +1,5 @@
 use Rattle.check_alone.specs.Kinds.{is_text}
 use Rattle.text.proofs.DecimalLaws.{every_turn, every_end}
-use Rattle.text.specs.Decimal.{every}
-use mathlib.Core.Path.{◌≡◌}
-use lib.ListN.{length, drop}
-use Prim.Native.Nat.{◌≤◌, ◌-◌}
-use mathlib.Core.Bool.{◌&&◌}
 use mathlib.Core.Path.{refl}
 use Rattle.std.proofs.Common.{rules}
 use Rattle.check_alone.proofs.texts.all_text.Goals as goal

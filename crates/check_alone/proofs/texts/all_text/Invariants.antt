@@ -1,11 +1,9 @@
 use Rattle.check_alone.specs.Kinds.{is_text}
-use Rattle.text.proofs.DecimalLaws.{every_turn, every_end}
 use Rattle.text.specs.Decimal.{every}
 use mathlib.Core.Path.{◌≡◌}
 use lib.ListN.{length, drop}
 use Prim.Native.Nat.{◌≤◌, ◌-◌}
 use mathlib.Core.Bool.{◌&&◌}
-use mathlib.Core.Path.{refl}
 use Rattle.check_alone.proofs.texts.all_text.Given as goal
 
 abbrev pub invariant-loop-i : goal.invariant-loop-i

@@ -1,6 +1,4 @@
-use borrow.Author.Tests.{not-true, not-false}
 use mathlib.Core.Path.{refl}
-use Rattle.std.proofs.Common.{rules}
 use Rattle.check_alone.proofs.texts.date.Goals as goal
 
 pub returns-then-not-digits : goal.returns-then-not-digits

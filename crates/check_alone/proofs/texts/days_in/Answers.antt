@@ -1,6 +1,5 @@
 use borrow.Author.Tests.{eq-eqb, ne_eqb}
 use mathlib.Core.Path.{refl}
-use Rattle.std.proofs.Common.{rules}
 use Rattle.check_alone.proofs.texts.days_in.Goals as goal
 
 pub returns-then-year-eq0 : goal.returns-then-year-eq0

@@ -1,6 +1,5 @@
 use lib.ListN.{get_or-eq_default}
 use mathlib.Core.Path.{sym}
-use Rattle.std.proofs.Common.{rules}
 use Rattle.check_alone.proofs.texts.first.Goals as goal
 
 pub returns-else-p-gt0 : goal.returns-else-p-gt0

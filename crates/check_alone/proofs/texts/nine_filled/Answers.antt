@@ -1,6 +1,4 @@
-use borrow.Author.Tests.{not-true, not-false}
 use mathlib.Core.Path.{refl}
-use Rattle.std.proofs.Common.{rules}
 use Rattle.check_alone.proofs.texts.nine_filled.Goals as goal
 
 pub returns-then-not-all_are : goal.returns-then-not-all_are

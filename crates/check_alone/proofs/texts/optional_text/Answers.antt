@@ -1,8 +1,6 @@
 use Rattle.check_alone.proofs.Laws.{or_not_false}
 use Rattle.check_alone.specs.Kinds.{blank}
-use borrow.Author.Tests.{not-true, not-false}
 use mathlib.Core.Path.{refl}
-use Rattle.std.proofs.Common.{rules}
 use Rattle.check_alone.proofs.texts.optional_text.Goals as goal
 
 pub returns-then-not-all_text : goal.returns-then-not-all_text

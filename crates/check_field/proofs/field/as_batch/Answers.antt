@@ -1,7 +1,5 @@
 use Rattle.check_field.proofs.Laws.{as_batch_is}
 use mathlib.Core.Bool.{true, false}
-use borrow.Author.Tests.{not-true, not-false}
-use Rattle.std.proofs.Common.{rules}
 use Rattle.check_field.proofs.field.as_batch.Goals as goal
 
 pub returns-then-not-same : goal.returns-then-not-same

@@ -1,6 +1,5 @@
 use Rattle.layout.proofs.Tables.{row_in, part_columns, part_fits}
 use native.Mathlib.Omega.{arith}
-use Rattle.std.proofs.Common.{rules}
 use Rattle.check_field.proofs.field.field.Goals as goal
 
 pub overflow_sub-from : goal.overflow_sub-from

@@ -1,8 +1,6 @@
 use Rattle.check_field.proofs.Laws.{as_batch_fits}
-use native.Mathlib.Omega.{arith}
 use borrow.Author.Tests.{leb-true}
 use mathlib.Core.Path.{refl, ◌∙◌}
-use Rattle.std.proofs.Common.{rules}
 use Rattle.check_field.proofs.field.kind_check.Goals as goal
 
 pub fixed-requires : goal.fixed-requires

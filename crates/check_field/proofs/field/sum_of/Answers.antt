@@ -1,5 +1,4 @@
 use mathlib.Core.Path.{refl}
-use Rattle.std.proofs.Common.{rules}
 use Rattle.check_field.proofs.field.sum_of.Goals as goal
 
 pub returns-in-BatchRecords : goal.returns-in-BatchRecords

@@ -1,8 +1,6 @@
 use borrow.Author.Tests.{lt-leb, le-leb}
-use borrow.Author.Tests.{eq-eqb, ne_eqb, not-false}
-use borrow.Author.Tests.{not-true}
+use borrow.Author.Tests.{eq-eqb, ne_eqb}
 use mathlib.Core.Path.{refl}
-use Rattle.std.proofs.Common.{rules}
 use Rattle.check_field.proofs.field.total_rule.Goals as goal
 
 pub returns-then-not-digits : goal.returns-then-not-digits

@@ -1,6 +1,4 @@
-use borrow.Author.Tests.{not-true, not-false}
 use mathlib.Core.Path.{refl}
-use Rattle.std.proofs.Common.{rules}
 use Rattle.check_record.proofs.outcome.finished.Goals as goal
 
 pub returns-then-not-complete : goal.returns-then-not-complete

@@ -1,9 +1,6 @@
 use Rattle.check_record.proofs.OutcomeLaws.{short, uneven, even}
 use Rattle.check_record.proofs.Ways.{some_bytes, bytes_few}
-use Rattle.layout.specs.Ways.{record_bytes}
-use lib.Dec.{leb, eqb}
 use native.Mathlib.Omega.{arith}
-use Rattle.std.proofs.Common.{rules}
 use Rattle.check_record.proofs.outcome.whole_records.Goals as goal
 
 pub returns-then-size-lt1 : goal.returns-then-size-lt1

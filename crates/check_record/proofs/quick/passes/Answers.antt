@@ -1,9 +1,6 @@
-use native.Mathlib.Omega.{arith}
 use Rattle.check_record.proofs.QuickLaws.{entry_passes, addendum_passes}
 use mathlib.Core.Bool.{false≢true}
-use borrow.Author.Tests.{not-false}
 use mathlib.Core.Path.{sym, ◌∙◌}
-use Rattle.std.proofs.Common.{rules}
 use Rattle.check_record.proofs.quick.passes.Goals as goal
 
 pub entry_front-requires : goal.entry_front-requires

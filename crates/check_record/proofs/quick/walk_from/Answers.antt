@@ -2,7 +2,6 @@ use Rattle.check_record.proofs.Laws.{fields_end}
 use Rattle.layout.specs.Fields.{rows_of, first_field}
 use native.Mathlib.Omega.{arith}
 use mathlib.Core.Path.{refl, sym, ◌∙◌}
-use Rattle.std.proofs.Common.{rules}
 use Rattle.check_record.proofs.quick.walk_from.Goals as goal
 
 pub returns-then-passes : goal.returns-then-passes

@@ -1,5 +1,4 @@
 use mathlib.Core.Path.{refl}
-use Rattle.std.proofs.Common.{rules}
 use Rattle.check_record.proofs.step.check.Goals as goal
 
 pub returns-in-Passed : goal.returns-in-Passed

@@ -1,6 +1,5 @@
 use Rattle.check_record.proofs.Ways.{closed_plain, closed_lined, lined_long}
 use native.Mathlib.Omega.{arith}
-use Rattle.std.proofs.Common.{rules}
 use Rattle.check_record.proofs.step.closed.Goals as goal
 
 pub bounds-rec-94 : goal.bounds-rec-94

@@ -1,11 +1,8 @@
-use Rattle.check_record.proofs.Laws.{fields_right_lem, fields_wrong, fields_end, first_le, rows_few}
 use Rattle.check_record.specs.Record.{fields_from}
 use Rattle.layout.specs.Fields.{rows_of, first_field}
-use native.Mathlib.Omega.{arith}
 use lib.ListN.{length, drop}
 use mathlib.Core.Path.{◌≡◌}
 use Prim.Native.Nat.{◌+◌, ◌-◌, ◌≤◌}
-use mathlib.Core.Path.{sym, ◌∙◌}
 use Rattle.check_record.proofs.step.fields.Given as goal
 
 abbrev pub invariant-loop-k : goal.invariant-loop-k

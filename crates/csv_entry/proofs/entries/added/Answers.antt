@@ -1,7 +1,6 @@
 use Rattle.text.proofs.DecimalLaws.{digit_of_lt}
 use native.Mathlib.Omega.{arith}
 use mathlib.Core.Path.{refl}
-use Rattle.std.proofs.Common.{rules}
 use Rattle.csv_entry.proofs.entries.added.Goals as goal
 
 pub returns-then-n-gt99999999 : goal.returns-then-n-gt99999999

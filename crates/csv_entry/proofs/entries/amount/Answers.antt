@@ -2,13 +2,10 @@ use Rattle.csv_entry.proofs.AmountLaws.{front_cut, cents_small, amount_short, am
 use Rattle.csv_cells.proofs.CellLaws.{rest_of}
 use Rattle.text.specs.Decimal.{digits, value}
 use lib.ListN.{length, take, drop}
-use mathlib.Core.Bool.{true, false, false≢true}
-use mathlib.Core.Path.{◌≡◌}
-use Prim.Native.Nat.{◌+◌, ◌-◌, ◌*◌, ◌≤◌}
+use mathlib.Core.Bool.{false≢true}
+use Prim.Native.Nat.{◌-◌}
 use native.Mathlib.Omega.{arith}
-use borrow.Author.Tests.{not-true, not-false}
 use mathlib.Core.Path.{sym, ◌∙◌, ap}
-use Rattle.std.proofs.Common.{rules}
 use Rattle.csv_entry.proofs.entries.amount.Goals as goal
 
 pub returns-then-n-lt4 : goal.returns-then-n-lt4

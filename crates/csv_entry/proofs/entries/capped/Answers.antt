@@ -1,8 +1,4 @@
-use Rattle.csv_entry.proofs.AmountLaws.{Dollars, dollars_first, dollars_next, dollars_end}
-use lib.ListN.{length}
-use native.Mathlib.Omega.{arith}
-use Prim.Native.Nat.{◌-◌}
-use Rattle.std.proofs.Common.{rules}
+use Rattle.csv_entry.proofs.AmountLaws.{dollars_first, dollars_next, dollars_end}
 use Rattle.csv_entry.proofs.entries.capped.Goals as goal
 
 pub loop-i-init : goal.loop-i-init

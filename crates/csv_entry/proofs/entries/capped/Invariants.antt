@@ -1,6 +1,5 @@
-use Rattle.csv_entry.proofs.AmountLaws.{Dollars, dollars_first, dollars_next, dollars_end}
+use Rattle.csv_entry.proofs.AmountLaws.{Dollars}
 use lib.ListN.{length}
-use native.Mathlib.Omega.{arith}
 use Prim.Native.Nat.{◌-◌}
 use Rattle.csv_entry.proofs.entries.capped.Given as goal
 

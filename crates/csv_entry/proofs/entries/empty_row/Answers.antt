@@ -1,5 +1,4 @@
 use Rattle.csv_entry.proofs.EntryLaws.{empty_made}
-use Rattle.std.proofs.Common.{rules}
 use Rattle.csv_entry.proofs.entries.empty_row.Goals as goal
 
 pub returns : goal.returns

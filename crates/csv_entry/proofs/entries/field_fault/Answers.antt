@@ -1,6 +1,5 @@
 use borrow.Author.Tests.{eq-eqb, ne_eqb}
 use mathlib.Core.Path.{refl}
-use Rattle.std.proofs.Common.{rules}
 use Rattle.csv_entry.proofs.entries.field_fault.Goals as goal
 
 pub returns-then-k-eq4 : goal.returns-then-k-eq4

@@ -1,7 +1,6 @@
 use Rattle.csv_entry.proofs.AmountLaws.{amount_same}
 use borrow.Author.Tests.{eq-eqb, ne_eqb}
 use mathlib.Core.Path.{refl, ◌∙◌}
-use Rattle.std.proofs.Common.{rules}
 use Rattle.csv_entry.proofs.entries.field_right.Goals as goal
 
 pub returns-then-k-eq4 : goal.returns-then-k-eq4

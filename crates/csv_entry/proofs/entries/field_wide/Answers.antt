@@ -1,8 +1,6 @@
 use mathlib.Core.Path.{◌≡◌}
-use Prim.Native.Nat.{ℕ}
 use native.Mathlib.Omega.{arith}
 use mathlib.Core.Path.{refl}
-use Rattle.std.proofs.Common.{rules}
 use Rattle.csv_entry.proofs.entries.field_wide.Goals as goal
 
 pub returns-in-1 : goal.returns-in-1

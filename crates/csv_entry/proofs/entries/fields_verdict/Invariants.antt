@@ -1,15 +1,9 @@
-use Rattle.csv_entry.proofs.EntryLaws.{right_step, stop_of, text_of, verdict_right, verdict_wrong, last_right, last_wrong, at_six}
-use Rattle.csv_entry.specs.Entries.{field_right, field_fault, texts_verdict}
-use Rattle.csv_cells.specs.Cells.{fields_right, texts_from, six_texts, stop_from}
-use Rattle.check_record.specs.declared.Verdict.{Verdict}
+use Rattle.csv_entry.specs.Entries.{texts_verdict}
+use Rattle.csv_cells.specs.Cells.{fields_right, texts_from, six_texts}
 use lib.ListN.{length}
-use lib.Dec.{lit≤}
 use mathlib.Core.Bool.{true}
 use mathlib.Core.Path.{◌≡◌}
-use native.Mathlib.Omega.{arith}
-use Prim.Native.Nat.{◌+◌, ◌-◌, ◌≤◌}
-use borrow.Author.Tests.{not-true, not-false}
-use mathlib.Core.Path.{refl, sym, ◌∙◌, ap}
+use Prim.Native.Nat.{◌-◌, ◌≤◌}
 use Rattle.csv_entry.proofs.entries.fields_verdict.Given as goal
 
 abbrev pub invariant-loop-k : goal.invariant-loop-k

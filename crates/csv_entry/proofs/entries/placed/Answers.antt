@@ -1,17 +1,14 @@
 use Rattle.csv_entry.proofs.EntryLaws.{line_passed, right_step, stop_of, verdict_passed, right_of, last_of, row_step, row_last, six_of, at_six, row_made}
-use Rattle.csv_entry.specs.Entries.{field_right, texts_verdict, all_columns, column_at}
-use Rattle.csv_cells.specs.Cells.{fields_right, texts_from, six_texts, stop_from, last_stop, size_by, break_at}
+use Rattle.csv_entry.specs.Entries.{texts_verdict, all_columns, column_at}
+use Rattle.csv_cells.specs.Cells.{fields_right, texts_from, six_texts, last_stop, size_by, break_at}
 use Rattle.check_record.specs.declared.Verdict.{Verdict}
 use Rattle.text.specs.Rows.{joined}
 use lib.Seq.{sets}
-use lib.ListN.{length}
 use lib.Dec.{lit≤}
-use mathlib.Core.Bool.{true}
 use mathlib.Core.Path.{◌≡◌}
 use native.Mathlib.Omega.{arith}
-use Prim.Native.Nat.{◌+◌, ◌-◌, ◌≤◌}
+use Prim.Native.Nat.{◌+◌, ◌-◌}
 use mathlib.Core.Path.{refl, sym, ◌∙◌, ap}
-use Rattle.std.proofs.Common.{rules}
 use Rattle.csv_entry.proofs.entries.placed.Goals as goal
 
 pub empty_row-row-requires : goal.empty_row-row-requires

@@ -3,7 +3,6 @@ use Rattle.csv_cells.specs.Cells.{undoubled}
 use Rattle.csv_entry.proofs.EntryLaws.{amount_there, text_fits, amount_put, text_put, text_room, column_end}
 use Rattle.csv_entry.proofs.EntryLaws.{amount_there, text_fits, amount_put, text_put, column_end}
 use native.Mathlib.Omega.{arith}
-use Prim.Native.Nat.{◌+◌, ◌-◌, ◌≤◌}
 use mathlib.Core.Path.{◌∙◌}
 use Rattle.std.proofs.Common.{rules}
 use Rattle.csv_entry.proofs.entries.put_field.Goals as goal

@@ -1,8 +1,6 @@
 use Rattle.csv_entry.proofs.EntryLaws.{tried_broken, tried_six, tried_never}
-use mathlib.Core.Bool.{true, false}
 use borrow.Author.Tests.{not-true, not-false}
 use mathlib.Core.Path.{sym, ◌∙◌}
-use Rattle.std.proofs.Common.{rules}
 use Rattle.csv_entry.proofs.entries.tried.Goals as goal
 
 pub returns-then-not-line : goal.returns-then-not-line

@@ -1,7 +1,6 @@
 use Rattle.csv_export.proofs.LineLaws.{line_length, part_short}
-use lib.ListN.{take, drop}
+use lib.ListN.{drop}
 use native.Mathlib.Omega.{arith}
-use Rattle.std.proofs.Common.{rules}
 use Rattle.csv_export.proofs.lining.line_size.Goals as goal
 
 pub returns : goal.returns

@@ -1,11 +1,7 @@
 use Rattle.csv_export.proofs.LineLaws.{lines_size, lines_none, row_long}
-use Rattle.csv_export.specs.Lining.{lines_at}
 use lib.ListN.{length}
-use mathlib.Core.Path.{◌≡◌}
 use native.Mathlib.Omega.{arith}
-use Prim.Native.Nat.{◌+◌, ◌*◌, ◌-◌, ◌≤◌}
 use mathlib.Core.Path.{ap}
-use Rattle.std.proofs.Common.{rules}
 use Rattle.csv_export.proofs.lining.lines_size.Goals as goal
 
 pub loop-left-init : goal.loop-left-init

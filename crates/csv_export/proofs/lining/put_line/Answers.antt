@@ -2,11 +2,9 @@ use Rattle.csv_export.proofs.LineLaws.{line_pieces}
 use Rattle.csv_export.proofs.FieldLaws.{room_as, puts_as}
 use Rattle.csv_export.specs.Quoting.{trimmed, quoted, amount_text}
 use Rattle.table_read.proofs.Writing.{puts_long, puts_both, room_front, room_rest}
-use lib.ListN.{length, take, drop, length-take, length-drop}
+use lib.ListN.{take, drop, length-take, length-drop}
 use mathlib.Core.List.{[], ◌∷◌, ◌++◌}
-use mathlib.Core.Path.{◌≡◌}
 use native.Mathlib.Omega.{arith}
-use Rattle.std.proofs.Common.{rules}
 use Rattle.csv_export.proofs.lining.put_line.Goals as goal
 
 pub put_text-routing-requires : goal.put_text-routing-requires

@@ -1,11 +1,9 @@
 use Rattle.csv_export.proofs.LineLaws.{lines_next, lines_none, row_long}
 use Rattle.csv_export.specs.Lining.{line_of_row, lines_at}
-use Rattle.table_read.proofs.Writing.{Left, left_start, left_long, left_end, left_room, left_next}
-use lib.ListN.{length, take, drop}
-use mathlib.Core.Path.{◌≡◌}
+use Rattle.table_read.proofs.Writing.{left_start, left_long, left_end, left_room, left_next}
+use lib.ListN.{take, drop}
 use native.Mathlib.Omega.{arith}
-use Prim.Native.Nat.{◌+◌, ◌*◌, ◌-◌, ◌≤◌}
-use Rattle.std.proofs.Common.{rules}
+use Prim.Native.Nat.{◌+◌, ◌-◌}
 use Rattle.csv_export.proofs.lining.put_lines.Goals as goal
 
 pub loop-left-init : goal.loop-left-init

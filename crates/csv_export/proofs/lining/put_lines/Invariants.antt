@@ -1,10 +1,7 @@
-use Rattle.csv_export.proofs.LineLaws.{lines_next, lines_none, row_long}
-use Rattle.csv_export.specs.Lining.{line_of_row, lines_at}
-use Rattle.table_read.proofs.Writing.{Left, left_start, left_long, left_end, left_room, left_next}
-use lib.ListN.{length, take, drop}
-use mathlib.Core.Path.{◌≡◌}
-use native.Mathlib.Omega.{arith}
-use Prim.Native.Nat.{◌+◌, ◌*◌, ◌-◌, ◌≤◌}
+use Rattle.csv_export.specs.Lining.{lines_at}
+use Rattle.table_read.proofs.Writing.{Left}
+use lib.ListN.{length}
+use Prim.Native.Nat.{◌+◌, ◌*◌, ◌≤◌}
 use Rattle.csv_export.proofs.lining.put_lines.Given as goal
 
 abbrev pub invariant-loop-left : goal.invariant-loop-left

@@ -1,6 +1,5 @@
 use Rattle.csv_export.proofs.FieldLaws.{zeros_few, amount_length, amount_short}
 use native.Mathlib.Omega.{arith}
-use Rattle.std.proofs.Common.{rules}
 use Rattle.csv_export.proofs.quoting.amount_size.Goals as goal
 
 pub slice_bounds-doubled_size-count : goal.slice_bounds-doubled_size-count

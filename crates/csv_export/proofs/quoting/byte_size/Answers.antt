@@ -1,7 +1,6 @@
 use Rattle.csv_export.proofs.FieldLaws.{escaped_quote, escaped_other}
 use lib.ListN.{length}
 use mathlib.Core.Path.{sym, ap}
-use Rattle.std.proofs.Common.{rules}
 use Rattle.csv_export.proofs.quoting.byte_size.Goals as goal
 
 pub returns-then-b-eq34 : goal.returns-then-b-eq34

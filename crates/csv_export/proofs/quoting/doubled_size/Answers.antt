@@ -1,11 +1,7 @@
 use Rattle.csv_export.proofs.FieldLaws.{escaped_size, size_next, doubled_end}
-use Rattle.csv_export.specs.Quoting.{doubled}
-use lib.ListN.{length, drop, get_or}
+use lib.ListN.{length, get_or}
 use native.Mathlib.Omega.{arith}
-use mathlib.Core.Path.{◌≡◌}
-use Prim.Native.Nat.{◌≤◌, ◌+◌, ◌-◌, ◌*◌}
 use mathlib.Core.Path.{ap}
-use Rattle.std.proofs.Common.{rules}
 use Rattle.csv_export.proofs.quoting.doubled_size.Goals as goal
 
 pub loop-i-init : goal.loop-i-init

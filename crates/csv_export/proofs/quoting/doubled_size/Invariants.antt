@@ -1,10 +1,7 @@
-use Rattle.csv_export.proofs.FieldLaws.{escaped_size, size_next, doubled_end}
 use Rattle.csv_export.specs.Quoting.{doubled}
-use lib.ListN.{length, drop, get_or}
-use native.Mathlib.Omega.{arith}
+use lib.ListN.{length, drop}
 use mathlib.Core.Path.{◌≡◌}
 use Prim.Native.Nat.{◌≤◌, ◌+◌, ◌-◌, ◌*◌}
-use mathlib.Core.Path.{ap}
 use Rattle.csv_export.proofs.quoting.doubled_size.Given as goal
 
 abbrev pub invariant-loop-i : goal.invariant-loop-i

@@ -1,12 +1,8 @@
 use Rattle.csv_export.proofs.FieldLaws.{kept_turn, kept_stop, kept_none}
 use Rattle.csv_export.specs.Quoting.{trimmed}
 use lib.Seq.{take-length}
-use lib.ListN.{length, take}
 use native.Mathlib.Omega.{arith}
-use mathlib.Core.Path.{◌≡◌}
-use Prim.Native.Nat.{◌≤◌}
 use mathlib.Core.Path.{ap}
-use Rattle.std.proofs.Common.{rules}
 use Rattle.csv_export.proofs.quoting.kept.Goals as goal
 
 pub loop-n-init : goal.loop-n-init

@@ -1,11 +1,6 @@
 use Rattle.csv_export.proofs.FieldLaws.{padding_turn, padding_stop, padding_end}
-use Rattle.csv_export.specs.Quoting.{unpadded}
-use lib.ListN.{length, drop}
 use native.Mathlib.Omega.{arith}
-use mathlib.Core.Path.{◌≡◌}
-use Prim.Native.Nat.{◌≤◌, ◌-◌}
 use mathlib.Core.Path.{refl}
-use Rattle.std.proofs.Common.{rules}
 use Rattle.csv_export.proofs.quoting.padding.Goals as goal
 
 pub loop-i-init : goal.loop-i-init

@@ -1,10 +1,7 @@
-use Rattle.csv_export.proofs.FieldLaws.{padding_turn, padding_stop, padding_end}
 use Rattle.csv_export.specs.Quoting.{unpadded}
 use lib.ListN.{length, drop}
-use native.Mathlib.Omega.{arith}
 use mathlib.Core.Path.{◌≡◌}
 use Prim.Native.Nat.{◌≤◌, ◌-◌}
-use mathlib.Core.Path.{refl}
 use Rattle.csv_export.proofs.quoting.padding.Given as goal
 
 abbrev pub invariant-loop-i : goal.invariant-loop-i

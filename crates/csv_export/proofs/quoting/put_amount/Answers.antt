@@ -5,7 +5,6 @@ use lib.ListN.{take, drop}
 use mathlib.Core.List.{[], ◌∷◌, ◌++◌}
 use Prim.Native.Nat.{◌-◌}
 use native.Mathlib.Omega.{arith}
-use Rattle.std.proofs.Common.{rules}
 use Rattle.csv_export.proofs.quoting.put_amount.Goals as goal
 
 pub put-inside-requires : goal.put-inside-requires

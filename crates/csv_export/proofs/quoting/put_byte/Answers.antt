@@ -1,7 +1,6 @@
 use Rattle.csv_export.proofs.FieldLaws.{escaped_quote, escaped_other}
 use Rattle.table_read.proofs.Writing.{puts_both, room_front, room_rest}
 use mathlib.Core.List.{[], ◌∷◌}
-use Rattle.std.proofs.Common.{rules}
 use Rattle.csv_export.proofs.quoting.put_byte.Goals as goal
 
 pub put-second-requires : goal.put-second-requires

@@ -1,11 +1,9 @@
 use Rattle.csv_export.proofs.FieldLaws.{doubled_next, doubled_end}
 use Rattle.csv_export.specs.Quoting.{escaped, doubled}
-use Rattle.table_read.proofs.Writing.{Left, left_start, left_long, left_end, left_room, left_next}
-use lib.ListN.{length, drop, get_or}
+use Rattle.table_read.proofs.Writing.{left_start, left_long, left_end, left_room, left_next}
+use lib.ListN.{drop, get_or}
 use native.Mathlib.Omega.{arith}
-use mathlib.Core.Path.{◌≡◌}
-use Prim.Native.Nat.{◌≤◌, ◌+◌, ◌-◌}
-use Rattle.std.proofs.Common.{rules}
+use Prim.Native.Nat.{◌+◌}
 use Rattle.csv_export.proofs.quoting.put_doubled.Goals as goal
 
 pub loop-i-init : goal.loop-i-init

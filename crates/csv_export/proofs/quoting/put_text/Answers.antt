@@ -5,7 +5,6 @@ use Rattle.table_read.proofs.Writing.{puts_both, room_front, room_rest}
 use lib.ListN.{take}
 use mathlib.Core.List.{[], ◌∷◌, ◌++◌}
 use native.Mathlib.Omega.{arith}
-use Rattle.std.proofs.Common.{rules}
 use Rattle.csv_export.proofs.quoting.put_text.Goals as goal
 
 pub put-inside-requires : goal.put-inside-requires

@@ -4,7 +4,6 @@ use Rattle.csv_export.specs.Quoting.{trimmed, doubled}
 use lib.ListN.{length, length-take}
 use native.Mathlib.Omega.{arith}
 use mathlib.Core.Path.{ap}
-use Rattle.std.proofs.Common.{rules}
 use Rattle.csv_export.proofs.quoting.text_size.Goals as goal
 
 pub slice_bounds-doubled_size-end : goal.slice_bounds-doubled_size-end

@@ -1,4 +1,3 @@
-use Rattle.std.proofs.Common.{rules}
 use Rattle.csv_import.proofs.following.form.Goals as goal
 
 pub next_head-requires : goal.next_head-requires

@@ -1,5 +1,4 @@
 use borrow.Author.Tests.{lt-ltb, le-ltb}
-use Rattle.std.proofs.Common.{rules}
 use Rattle.csv_import.proofs.following.next_item.Goals as goal
 
 pub returns-then-c-gt0 : goal.returns-then-c-gt0

@@ -8,7 +8,6 @@ use Rattle.csv_cells.proofs.CellLaws.{rest_of}
 use mathlib.Core.Bool.{false≢true}
 use native.Mathlib.Omega.{arith}
 use mathlib.Core.Path.{refl, sym, ◌∙◌, ap}
-use Rattle.std.proofs.Common.{rules}
 use Rattle.csv_import.proofs.following.next_line.Goals as goal
 
 pub slice_bounds-placed-count : goal.slice_bounds-placed-count

@@ -1,5 +1,4 @@
 use mathlib.Core.Path.{refl}
-use Rattle.std.proofs.Common.{rules}
 use Rattle.csv_import.proofs.following.past.Goals as goal
 
 pub returns-in-Start : goal.returns-in-Start

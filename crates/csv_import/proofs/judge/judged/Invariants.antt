@@ -1,22 +1,14 @@
-use Rattle.csv_import.proofs.Judging.{begun_here, ahead_here, few_here, import_made, long_here, left_here, refused_here, step_here, along_here}
-use Rattle.csv_import.proofs.Along.{Along, along_first, batch_few, entry_few}
-use Rattle.csv_import.proofs.TableLaws.{bank_long}
+use Rattle.csv_import.proofs.Along.{Along}
 use Rattle.csv_entry.specs.Import.{import_table}
-use Rattle.table_write.proofs.PassLaws.{Walking, walking_on, passed_on, run_granted}
+use Rattle.table_write.proofs.PassLaws.{Walking}
 use Rattle.table_form.proofs.WalkLaws.{todo}
 use Rattle.view_laws.proofs.Ways.{bare_run}
 use Rattle.view.specs.Table.{formed}
 use Rattle.check_record.specs.Record.{checked_of}
 use Rattle.check_sums.specs.WorkFair.{Fair}
-use Rattle.check_record.specs.declared.Stepped.{Stepped}
 use Rattle.layout.specs.declared.Way.{Way}
-use Rattle.layout.specs.declared.Checked.{Checked}
 use lib.ListN.{length}
-use mathlib.Core.Bool.{true, false}
 use mathlib.Core.Path.{◌≡◌}
-use native.Mathlib.Omega.{arith}
-use Prim.Native.Nat.{◌+◌, ◌≤◌}
-use mathlib.Core.Path.{sym, ◌∙◌, ap}
 use Rattle.csv_import.proofs.judge.judged.Given as goal
 
 abbrev pub invariant-loop-groups : goal.invariant-loop-groups

@@ -1,13 +1,10 @@
-use Rattle.csv_import.proofs.WalkLaws.{from_here, Walked, walked_start, number_small, walked_fault, line_fits, walked_next, walked_end}
+use Rattle.csv_import.proofs.WalkLaws.{from_here, walked_start, number_small, walked_fault, line_fits, walked_next, walked_end}
 use Rattle.csv_entry.specs.Entries.{line_verdict}
 use Rattle.csv_cells.specs.Cells.{line_size}
 use Rattle.view_laws.proofs.Answers.{not_granted}
-use lib.ListN.{length}
 use mathlib.Core.Path.{◌≡◌}
 use native.Mathlib.Omega.{arith}
-use Prim.Native.Nat.{◌+◌, ◌-◌}
 use mathlib.Core.Path.{sym, ◌∙◌}
-use Rattle.std.proofs.Common.{rules}
 use Rattle.csv_import.proofs.listing.listed.Goals as goal
 
 pub loop-at-init : goal.loop-at-init

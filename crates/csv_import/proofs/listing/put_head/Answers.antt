@@ -4,7 +4,6 @@ use Rattle.text.specs.Decimal.{render}
 use lib.ListN.{take}
 use mathlib.Core.List.{◌++◌}
 use native.Mathlib.Omega.{arith}
-use Rattle.std.proofs.Common.{rules}
 use Rattle.csv_import.proofs.listing.put_head.Goals as goal
 
 pub put_count-file-requires : goal.put_count-file-requires

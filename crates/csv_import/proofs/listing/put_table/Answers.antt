@@ -6,7 +6,6 @@ use Rattle.csv_entry.specs.Import.{bank_in}
 use Rattle.csv_cells.specs.Cells.{lines_in}
 use Rattle.text.specs.Decimal.{render}
 use mathlib.Core.List.{◌++◌}
-use Rattle.std.proofs.Common.{rules}
 use Rattle.csv_import.proofs.listing.put_table.Goals as goal
 
 pub put_head-rows-requires : goal.put_head-rows-requires

@@ -1,5 +1,4 @@
 use Rattle.find_entry.proofs.Accepted.{entry_at_lem}
-use Rattle.std.proofs.Common.{rules}
 use Rattle.find_entry.proofs.find.entry_at.Goals as goal
 
 pub returns : goal.returns

@@ -3,7 +3,6 @@ use lib.ListN.{length}
 use native.Mathlib.Omega.{arith}
 use Prim.Native.Nat.{◌+◌}
 use Rattle.find_entry.proofs.Accepted.{found}
-use Rattle.std.proofs.Common.{rules}
 use Rattle.find_entry.proofs.find.locate.Goals as goal
 
 pub nth-control-requires : goal.nth-control-requires

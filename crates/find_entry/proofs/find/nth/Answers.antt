@@ -1,17 +1,11 @@
 use Rattle.find_entry.proofs.Parts.{starts, stands, on, once}
 use Rattle.find_entry.proofs.Walk.{nth_here, nth_before, nth_other, nth_end}
 use Rattle.find_entry.proofs.Parts.{starts, stands, on}
-use Rattle.find_entry.specs.WorkFind.{nth_of}
-use Rattle.check_record.proofs.Ways.{some_bytes, bytes_few}
-use Rattle.check_record.specs.Record.{columns_in}
-use Rattle.layout.specs.Ways.{record_bytes}
-use lib.ListN.{length, drop}
+use Rattle.check_record.proofs.Ways.{some_bytes}
+use lib.ListN.{length}
 use native.Mathlib.Omega.{arith}
-use mathlib.Core.Logic.{⊎_elim}
-use mathlib.Core.Path.{◌≡◌}
-use Prim.Native.Nat.{◌+◌, ◌-◌, ◌*◌, ◌/◌, ◌≤◌}
+use Prim.Native.Nat.{◌+◌}
 use mathlib.Core.Path.{refl}
-use Rattle.std.proofs.Common.{rules}
 use Rattle.find_entry.proofs.find.nth.Goals as goal
 use Rattle.find_entry.proofs.find.nth.Goals.{then-file-at+else-left-eq0, else-file-at}
 
@@ -41,12 +35,11 @@ loop-i-smaller c = omega (arith, (rw c.record_bytes-wide.ensures at c.loop-i-tes
 
 pub loop-i-preserved : goal.loop-i-preserved
 loop-i-preserved c =
-    let here = rw c.record_bytes-wide.ensures at c.loop-i-test.true in
-    (
+    let here = rw c.record_bytes-wide.ensures at c.loop-i-test.true in (
       omega (arith, here),
       elim c.if-file-at.branch [
-        then-file-at+else-left-eq0 w ↦ rw w.left-is (omega (arith, c.loop-i.invariant.1, nth_before c.args.way c.args.file.now c.loop-i.i c.args.byte c.loop-i.left here (rw c.loop-i.invariant.2 at w.if-file-at.true) w.if-left-eq0.false))
-      | else-file-at w ↦ rw w.left-is (omega (arith, c.loop-i.invariant.1, nth_other c.args.way c.args.file.now c.loop-i.i c.args.byte c.loop-i.left here (rw c.loop-i.invariant.2 at w.if-file-at.false)))
+        | then-file-at+else-left-eq0 w ↦ rw w.left-is (omega (arith, c.loop-i.invariant.1, nth_before c.args.way c.args.file.now c.loop-i.i c.args.byte c.loop-i.left here (rw c.loop-i.invariant.2 at w.if-file-at.true) w.if-left-eq0.false))
+        | else-file-at w ↦ rw w.left-is (omega (arith, c.loop-i.invariant.1, nth_other c.args.way c.args.file.now c.loop-i.i c.args.byte c.loop-i.left here (rw c.loop-i.invariant.2 at w.if-file-at.false)))
       ],
       rw (c.record_bytes-at.ensures, c.loop-i.invariant.2) (on c.args.way c.loop-i.i),
     )

@@ -1,16 +1,9 @@
-use Rattle.find_entry.proofs.Parts.{starts, stands, on, once}
-use Rattle.find_entry.proofs.Walk.{nth_here, nth_before, nth_other, nth_end}
-use Rattle.find_entry.proofs.Parts.{starts, stands, on}
 use Rattle.find_entry.specs.WorkFind.{nth_of}
-use Rattle.check_record.proofs.Ways.{some_bytes, bytes_few}
 use Rattle.check_record.specs.Record.{columns_in}
 use Rattle.layout.specs.Ways.{record_bytes}
 use lib.ListN.{length, drop}
-use native.Mathlib.Omega.{arith}
-use mathlib.Core.Logic.{⊎_elim}
 use mathlib.Core.Path.{◌≡◌}
 use Prim.Native.Nat.{◌+◌, ◌-◌, ◌*◌, ◌/◌, ◌≤◌}
-use mathlib.Core.Path.{refl}
 use Rattle.find_entry.proofs.find.nth.Given as goal
 
 abbrev pub invariant-loop-i : goal.invariant-loop-i

@@ -1,8 +1,6 @@
 use mathlib.Core.Path.{subst}
-use Rattle.funds.specs.Outcome.{check_of}
 use Rattle.funds.proofs.CheckLaws.{Comes, file_refused, no_room, room_for_rows, listed}
 use mathlib.Core.Path.{sym, ◌∙◌, ap}
-use Rattle.std.proofs.Common.{rules}
 use Rattle.funds.proofs.filling.check.Goals as goal
 
 pub returns-then-rows-checked : goal.returns-then-rows-checked

@@ -5,7 +5,6 @@ use lib.Dec.{lit≤}
 use native.Mathlib.Omega.{arith}
 use Prim.Native.Nat.{◌+◌, ◌*◌}
 use mathlib.Core.Path.{sym, ◌∙◌, ap}
-use Rattle.std.proofs.Common.{rules}
 use Rattle.funds.proofs.filling.control_credit.Goals as goal
 
 pub overflow_mul-at : goal.overflow_mul-at

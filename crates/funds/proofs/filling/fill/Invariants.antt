@@ -1,11 +1,8 @@
-use lib.ListN.{length, length-set}
-use Rattle.funds.proofs.WalkLaws.{Filling, filling_first, filling_long, filling_on, filled, row_room, sum_fits, few}
-use Rattle.find_entry.proofs.Parts.{starts}
-use Rattle.check_record.proofs.Ways.{some_bytes}
+use lib.ListN.{length}
+use Rattle.funds.proofs.WalkLaws.{Filling}
 use Rattle.layout.specs.Ways.{record_bytes}
 use lib.ListN.{length}
-use native.Mathlib.Omega.{arith}
-use Prim.Native.Nat.{◌+◌, ◌-◌, ◌/◌}
+use Prim.Native.Nat.{◌-◌, ◌/◌}
 use Rattle.funds.proofs.filling.fill.Given as goal
 
 abbrev pub invariant-loop-i : goal.invariant-loop-i

@@ -1,11 +1,9 @@
-use Rattle.funds.proofs.WalkLaws.{Comparing, comparing_first, too_short, other_number, other_credits, comparing_on, compared, sum_fits, few}
+use Rattle.funds.proofs.WalkLaws.{comparing_first, too_short, other_number, other_credits, comparing_on, compared, sum_fits, few}
 use Rattle.find_entry.proofs.Parts.{starts}
 use Rattle.check_record.proofs.Ways.{some_bytes}
-use Rattle.layout.specs.Ways.{record_bytes}
 use lib.ListN.{length}
 use native.Mathlib.Omega.{arith}
-use Prim.Native.Nat.{◌+◌, ◌-◌, ◌/◌}
-use Rattle.std.proofs.Common.{rules}
+use Prim.Native.Nat.{◌+◌}
 use Rattle.funds.proofs.filling.is_true_list.Goals as goal
 
 pub nonzero_div-count : goal.nonzero_div-count

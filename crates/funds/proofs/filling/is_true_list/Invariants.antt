@@ -1,10 +1,7 @@
-use Rattle.funds.proofs.WalkLaws.{Comparing, comparing_first, too_short, other_number, other_credits, comparing_on, compared, sum_fits, few}
-use Rattle.find_entry.proofs.Parts.{starts}
-use Rattle.check_record.proofs.Ways.{some_bytes}
+use Rattle.funds.proofs.WalkLaws.{Comparing}
 use Rattle.layout.specs.Ways.{record_bytes}
 use lib.ListN.{length}
-use native.Mathlib.Omega.{arith}
-use Prim.Native.Nat.{◌+◌, ◌-◌, ◌/◌}
+use Prim.Native.Nat.{◌-◌, ◌/◌}
 use Rattle.funds.proofs.filling.is_true_list.Given as goal
 
 abbrev pub invariant-loop-i : goal.invariant-loop-i

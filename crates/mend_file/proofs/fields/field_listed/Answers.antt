@@ -1,7 +1,6 @@
 use Rattle.mend_file.proofs.FieldLaws.{field_same, field_differs, none_listed, one_listed}
 use native.Mathlib.Omega.{arith}
 use mathlib.Core.Path.{sym, ◌∙◌}
-use Rattle.std.proofs.Common.{rules}
 use Rattle.mend_file.proofs.fields.field_listed.Goals as goal
 
 pub returns-then-same : goal.returns-then-same

@@ -1,11 +1,8 @@
 use Rattle.mend_file.specs.WorkChanging.{listed_of, field_rows}
-use Rattle.mend_file.proofs.FieldLaws.{Measured, measured_first, measured_on, measured_end, table_short}
+use Rattle.mend_file.proofs.FieldLaws.{measured_first, measured_on, measured_end, table_short}
 use Rattle.layout.specs.Fields.{rows_of}
-use lib.ListN.{length}
 use native.Mathlib.Omega.{arith}
-use Prim.Native.Nat.{◌-◌, ◌≤◌, ◌<◌}
 use mathlib.Core.Path.{◌∙◌, ap}
-use Rattle.std.proofs.Common.{rules}
 use Rattle.mend_file.proofs.fields.listed.Goals as goal
 
 pub loop-k-init : goal.loop-k-init

@@ -1,10 +1,6 @@
-use Rattle.mend_file.specs.WorkChanging.{listed_of, field_rows}
-use Rattle.mend_file.proofs.FieldLaws.{Measured, measured_first, measured_on, measured_end, table_short}
+use Rattle.mend_file.proofs.FieldLaws.{Measured}
 use Rattle.layout.specs.Fields.{rows_of}
-use lib.ListN.{length}
-use native.Mathlib.Omega.{arith}
-use Prim.Native.Nat.{◌-◌, ◌≤◌, ◌<◌}
-use mathlib.Core.Path.{◌∙◌, ap}
+use Prim.Native.Nat.{◌-◌, ◌≤◌}
 use Rattle.mend_file.proofs.fields.listed.Given as goal
 
 abbrev pub invariant-loop-k : goal.invariant-loop-k

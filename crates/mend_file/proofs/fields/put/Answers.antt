@@ -1,13 +1,7 @@
-use Rattle.mend_file.proofs.FieldLaws.{FieldsLeft, fields_room, fields_on, fields_done, table_short}
-use Rattle.mend_file.specs.WorkChanging.{field_rows}
+use Rattle.mend_file.proofs.FieldLaws.{fields_room, fields_on, fields_done}
 use Rattle.table_read.proofs.Writing.{left_start, left_long}
-use Rattle.table_read.specs.WorkPuts.{Puts, Room}
-use Rattle.text.specs.Rows.{joined}
 use Rattle.layout.specs.Fields.{rows_of}
-use lib.ListN.{length}
 use native.Mathlib.Omega.{arith}
-use Prim.Native.Nat.{◌-◌, ◌≤◌, ◌<◌}
-use Rattle.std.proofs.Common.{rules}
 use Rattle.mend_file.proofs.fields.put.Goals as goal
 
 pub loop-k-init : goal.loop-k-init

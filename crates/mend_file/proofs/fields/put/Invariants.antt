@@ -1,12 +1,6 @@
-use Rattle.mend_file.proofs.FieldLaws.{FieldsLeft, fields_room, fields_on, fields_done, table_short}
-use Rattle.mend_file.specs.WorkChanging.{field_rows}
-use Rattle.table_read.proofs.Writing.{left_start, left_long}
-use Rattle.table_read.specs.WorkPuts.{Puts, Room}
-use Rattle.text.specs.Rows.{joined}
+use Rattle.mend_file.proofs.FieldLaws.{FieldsLeft}
 use Rattle.layout.specs.Fields.{rows_of}
-use lib.ListN.{length}
-use native.Mathlib.Omega.{arith}
-use Prim.Native.Nat.{◌-◌, ◌≤◌, ◌<◌}
+use Prim.Native.Nat.{◌-◌, ◌≤◌}
 use Rattle.mend_file.proofs.fields.put.Given as goal
 
 abbrev pub invariant-loop-k : goal.invariant-loop-k

@@ -2,7 +2,6 @@ use Rattle.mend_file.proofs.FieldLaws.{digits_put}
 use mathlib.Core.Path.{refl}
 use Rattle.text.proofs.DecimalLaws.{length_render}
 use native.Mathlib.Omega.{arith}
-use Rattle.std.proofs.Common.{rules}
 use Rattle.mend_file.proofs.fields.put_digits.Goals as goal
 
 pub overflow_add-end : goal.overflow_add-end

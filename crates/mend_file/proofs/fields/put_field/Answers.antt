@@ -1,14 +1,10 @@
 use mathlib.Core.List.{◌++◌}
-use Rattle.mend_file.specs.WorkChanging.{field_rows}
 use Rattle.mend_file.proofs.FieldLaws.{field_same, field_differs, row_parts, row_nothing}
 use Rattle.table_read.proofs.Writing.{puts_none, puts_both, room_front, room_rest}
-use Rattle.table_read.specs.WorkPuts.{Puts, Room}
 use Rattle.table_read.specs.WorkPasses.{between}
-use Rattle.text.specs.Rows.{joined}
 use Rattle.text.specs.Decimal.{render}
 use native.Mathlib.Omega.{arith}
 use mathlib.Core.Path.{sym, ◌∙◌}
-use Rattle.std.proofs.Common.{rules}
 use Rattle.mend_file.proofs.fields.put_field.Goals as goal
 
 pub returns-then-same : goal.returns-then-same

@@ -1,7 +1,6 @@
 use Rattle.mend_file.proofs.FieldLaws.{row_inside}
 use native.Mathlib.Omega.{arith}
 use mathlib.Core.Path.{refl}
-use Rattle.std.proofs.Common.{rules}
 use Rattle.mend_file.proofs.fields.span_of.Goals as goal
 
 pub overflow_sub-result : goal.overflow_sub-result

@@ -1,4 +1,3 @@
-use Rattle.std.proofs.Common.{rules}
 use Rattle.mend_file.proofs.judging.answered.Goals as goal
 
 pub returns-in-Failed : goal.returns-in-Failed

@@ -1,7 +1,6 @@
 use Rattle.mend_file.proofs.JudgeLaws.{behind_is, nine_few}
 use native.Mathlib.Omega.{arith}
 use mathlib.Core.Path.{◌∙◌}
-use Rattle.std.proofs.Common.{rules}
 use Rattle.mend_file.proofs.judging.behind.Goals as goal
 
 pub overflow_add-before : goal.overflow_add-before

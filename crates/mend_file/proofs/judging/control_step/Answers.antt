@@ -1,7 +1,6 @@
 use Rattle.mend.specs.Mend.{refilled}
 use Rattle.check_record.specs.Record.{record_of, piece_of}
 use mathlib.Core.Path.{◌∙◌, ap}
-use Rattle.std.proofs.Common.{rules}
 use Rattle.mend_file.proofs.judging.control_step.Goals as goal
 
 pub returns : goal.returns

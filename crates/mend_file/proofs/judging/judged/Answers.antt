@@ -1,13 +1,12 @@
-use Rattle.mend_file.proofs.TurnLaws.{Judging, begun, judged_short, judged_failed, turn, judged_nine, nine_found}
+use Rattle.mend_file.proofs.TurnLaws.{begun, judged_short, judged_failed, turn, judged_nine, nine_found}
 use Rattle.mend_file.proofs.JudgeLaws.{along}
 use Rattle.view_laws.proofs.BridgeSound.{refused_not}
 use Rattle.check_record.proofs.Ways.{some_bytes, raw_long}
 use Rattle.layout.specs.declared.Fault.{Fault}
 use lib.ListN.{length, take, drop}
 use native.Mathlib.Omega.{arith}
-use Prim.Native.Nat.{◌+◌, ◌-◌, ◌≤◌}
+use Prim.Native.Nat.{◌+◌, ◌-◌}
 use mathlib.Core.Path.{sym, ◌∙◌, ap}
-use Rattle.std.proofs.Common.{rules}
 use Rattle.mend_file.proofs.judging.judged.Goals as goal
 
 pub loop-at-init : goal.loop-at-init

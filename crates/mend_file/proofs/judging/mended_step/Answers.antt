@@ -2,7 +2,6 @@ use Rattle.mend_file.proofs.StepLaws.{mended_columns}
 use Rattle.mend.specs.Mend.{refilled}
 use Rattle.check_record.specs.Record.{record_of, piece_of}
 use mathlib.Core.Path.{◌∙◌, ap}
-use Rattle.std.proofs.Common.{rules}
 use Rattle.mend_file.proofs.judging.mended_step.Goals as goal
 
 pub returns : goal.returns

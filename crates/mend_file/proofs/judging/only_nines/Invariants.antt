@@ -1,15 +1,9 @@
-use Rattle.check_record.proofs.Ways.{some_bytes}
-use Rattle.mend_file.proofs.JudgeLaws.{along, nines_on, nines_stop, nines_end}
-use Rattle.view.specs.View.{filler_record}
 use Rattle.mend.specs.Mend.{only_nines}
-use Rattle.check_record.proofs.Ways.{raw_from, columns_long}
+use Rattle.check_record.proofs.Ways.{raw_from}
 use Rattle.layout.specs.Ways.{record_bytes}
 use lib.ListN.{length}
-use native.Mathlib.Omega.{arith}
 use mathlib.Core.Path.{◌≡◌}
 use Prim.Native.Nat.{◌+◌, ◌*◌, ◌-◌, ◌≤◌}
-use borrow.Author.Tests.{not-true, not-false}
-use mathlib.Core.Path.{refl, sym, ◌∙◌, ap}
 use Rattle.mend_file.proofs.judging.only_nines.Given as goal
 
 abbrev pub invariant-loop-at : goal.invariant-loop-at

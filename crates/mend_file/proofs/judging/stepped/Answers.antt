@@ -1,7 +1,5 @@
 use Rattle.mend_file.proofs.StepLaws.{refilled_failed, refilled_unclosed, refilled_closed}
-use borrow.Author.Tests.{not-true, not-false}
 use mathlib.Core.Path.{sym, ◌∙◌}
-use Rattle.std.proofs.Common.{rules}
 use Rattle.mend_file.proofs.judging.stepped.Goals as goal
 
 pub returns-in-Failed : goal.returns-in-Failed

@@ -1,6 +1,5 @@
 use Rattle.text.proofs.SetLaws.{sets_whole}
 use mathlib.Core.Path.{◌∙◌}
-use Rattle.std.proofs.Common.{rules}
 use Rattle.mend_file.proofs.refilling.kept.Goals as goal
 
 pub returns : goal.returns

@@ -1,6 +1,5 @@
 use Rattle.mend_file.proofs.RefillLaws.{not_eight, no_batch, eight}
 use mathlib.Core.Path.{sym, ◌∙◌}
-use Rattle.std.proofs.Common.{rules}
 use Rattle.mend_file.proofs.refilling.mended.Goals as goal
 
 pub returns-then-rec-ne56 : goal.returns-then-rec-ne56

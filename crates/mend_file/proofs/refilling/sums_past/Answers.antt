@@ -1,7 +1,6 @@
 use native.Mathlib.Omega.{arith}
 use lib.Seq.{take_all}
 use mathlib.Core.Path.{refl, ◌∙◌}
-use Rattle.std.proofs.Common.{rules}
 use Rattle.mend_file.proofs.refilling.sums_past.Goals as goal
 
 pub returns : goal.returns

@@ -1,13 +1,9 @@
-use Rattle.mend_file.proofs.PutLaws.{Filling, filling_fits, filling_on, filling_end}
-use Rattle.view.specs.View.{filler_record}
-use Rattle.layout.specs.Ways.{record_bytes, end_of}
-use lib.Seq.{sets, length-sets}
+use Rattle.mend_file.proofs.PutLaws.{filling_fits, filling_on, filling_end}
+use lib.Seq.{length-sets}
 use lib.ListN.{length}
 use mathlib.Core.Path.{◌≡◌}
 use native.Mathlib.Omega.{arith}
-use Prim.Native.Nat.{◌+◌, ◌-◌, ◌*◌, ◌≤◌}
 use mathlib.Core.Path.{refl, ap}
-use Rattle.std.proofs.Common.{rules}
 use Rattle.mend_file.proofs.renewing.put_fillers.Goals as goal
 
 pub loop-left-init : goal.loop-left-init

@@ -2,11 +2,10 @@ use Rattle.mend.proofs.Again.{file_long}
 use Rattle.mend_file.proofs.PutLaws.{nine_within, control_room, fillers_fit, put_done}
 use Rattle.check_record.proofs.Ways.{raw_long}
 use Rattle.layout.specs.Ways.{record_bytes}
-use lib.ListN.{length, take, drop}
+use lib.ListN.{length}
 use native.Mathlib.Omega.{arith}
-use Prim.Native.Nat.{◌+◌, ◌-◌, ◌*◌, ◌≤◌}
+use Prim.Native.Nat.{◌*◌}
 use mathlib.Core.Path.{◌∙◌, ap}
-use Rattle.std.proofs.Common.{rules}
 use Rattle.mend_file.proofs.renewing.put_mended.Goals as goal
 
 pub overflow_mul-at : goal.overflow_mul-at

@@ -1,10 +1,7 @@
 use Rattle.mend_file.proofs.StepLaws.{mended_columns}
 use Rattle.mend.specs.Mend.{refilled}
 use lib.Seq.{sets}
-use lib.ListN.{length, take, length-take}
-use native.Mathlib.Omega.{arith}
 use mathlib.Core.Path.{◌∙◌, ap}
-use Rattle.std.proofs.Common.{rules}
 use Rattle.mend_file.proofs.renewing.put_record.Goals as goal
 
 pub returns : goal.returns

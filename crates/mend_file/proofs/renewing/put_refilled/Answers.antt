@@ -1,10 +1,8 @@
 use Rattle.mend_file.proofs.PutLaws.{refilled_put}
 use lib.Seq.{sets}
 use lib.ListN.{length, take, drop}
-use native.Mathlib.Omega.{arith}
-use Prim.Native.Nat.{◌+◌, ◌-◌, ◌≤◌}
+use Prim.Native.Nat.{◌+◌, ◌-◌}
 use mathlib.Core.Path.{◌∙◌, ap}
-use Rattle.std.proofs.Common.{rules}
 use Rattle.mend_file.proofs.renewing.put_refilled.Goals as goal
 
 pub returns : goal.returns

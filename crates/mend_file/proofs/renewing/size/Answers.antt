@@ -1,7 +1,5 @@
 use Rattle.mend_file.proofs.SizeLaws.{size_few}
-use native.Mathlib.Omega.{arith}
 use mathlib.Core.Path.{refl}
-use Rattle.std.proofs.Common.{rules}
 use Rattle.mend_file.proofs.renewing.size.Goals as goal
 
 pub overflow_mul-result : goal.overflow_mul-result

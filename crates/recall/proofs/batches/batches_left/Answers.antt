@@ -1,11 +1,7 @@
-use Rattle.recall.proofs.CountLaws.{Counted, counted_first, counted_inside, counted_next, counted_behind, counted_end}
+use Rattle.recall.proofs.CountLaws.{counted_first, counted_inside, counted_next, counted_behind, counted_end}
 use Rattle.recall_close.proofs.CloseLaws.{old_few}
-use lib.ListN.{length}
-use mathlib.Core.Path.{◌≡◌}
 use native.Mathlib.Omega.{arith}
-use Prim.Native.Nat.{◌+◌, ◌-◌, ◌≤◌}
 use mathlib.Core.Path.{refl}
-use Rattle.std.proofs.Common.{rules}
 use Rattle.recall.proofs.batches.batches_left.Goals as goal
 
 pub loop-i-init : goal.loop-i-init

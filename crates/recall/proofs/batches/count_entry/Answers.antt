@@ -1,5 +1,4 @@
 use mathlib.Core.Path.{refl}
-use Rattle.std.proofs.Common.{rules}
 use Rattle.recall.proofs.batches.count_entry.Goals as goal
 
 pub returns-then-is_set : goal.returns-then-is_set

@@ -1,6 +1,5 @@
 use borrow.Author.Tests.{eq-eqb, ne_eqb}
 use mathlib.Core.Path.{refl}
-use Rattle.std.proofs.Common.{rules}
 use Rattle.recall.proofs.batches.count_record.Goals as goal
 
 pub returns-then-first-eq53 : goal.returns-then-first-eq53

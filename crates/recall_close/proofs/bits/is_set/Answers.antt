@@ -1,6 +1,5 @@
 use Rattle.recall_close.specs.WorkBits.{flag_at}
 use mathlib.Core.Path.{refl}
-use Rattle.std.proofs.Common.{rules}
 use Rattle.recall_close.proofs.bits.is_set.Goals as goal
 
 pub returns : goal.returns

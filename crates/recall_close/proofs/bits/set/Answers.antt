@@ -1,7 +1,6 @@
 use Rattle.recall_close.proofs.BitLaws.{set_flag}
 use mathlib.Core.Path.{refl}
 use lib.ListN.{length-set}
-use Rattle.std.proofs.Common.{rules}
 use Rattle.recall_close.proofs.bits.set.Goals as goal
 
 pub returns : goal.returns

@@ -1,11 +1,6 @@
 use Rattle.recall_close.proofs.MarkLaws.{some_found, some_further, some_none}
-use Rattle.recall_close.specs.WorkMoving.{some_left}
-use borrow.Author.Tests.{not-true, not-false}
-use mathlib.Core.Path.{◌≡◌}
 use native.Mathlib.Omega.{arith}
-use Prim.Native.Nat.{◌+◌, ◌-◌, ◌≤◌, ◌<◌}
 use mathlib.Core.Path.{refl, sym, ◌∙◌}
-use Rattle.std.proofs.Common.{rules}
 use Rattle.recall_close.proofs.marking.any_left.Goals as goal
 
 pub loop-left-init : goal.loop-left-init

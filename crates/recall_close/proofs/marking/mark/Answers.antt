@@ -1,11 +1,7 @@
-use Rattle.recall_close.proofs.MarkLaws.{Marking, marking_first, bad_zero, bad_past, marking_on, all_there, all_marked}
+use Rattle.recall_close.proofs.MarkLaws.{marking_first, bad_zero, bad_past, marking_on, all_there, all_marked}
 use Rattle.view_laws.proofs.BridgeFields.{never}
-use lib.ListN.{length}
-use mathlib.Core.Path.{◌≡◌}
 use native.Mathlib.Omega.{arith}
-use Prim.Native.Nat.{◌-◌, ◌≤◌, ◌<◌}
 use mathlib.Core.Path.{sym, ◌∙◌}
-use Rattle.std.proofs.Common.{rules}
 use Rattle.recall_close.proofs.marking.mark.Goals as goal
 
 pub loop-i-init : goal.loop-i-init

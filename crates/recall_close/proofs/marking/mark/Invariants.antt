@@ -1,10 +1,6 @@
-use Rattle.recall_close.proofs.MarkLaws.{Marking, marking_first, bad_zero, bad_past, marking_on, all_there, all_marked}
-use Rattle.view_laws.proofs.BridgeFields.{never}
+use Rattle.recall_close.proofs.MarkLaws.{Marking}
 use lib.ListN.{length}
-use mathlib.Core.Path.{◌≡◌}
-use native.Mathlib.Omega.{arith}
-use Prim.Native.Nat.{◌-◌, ◌≤◌, ◌<◌}
-use mathlib.Core.Path.{sym, ◌∙◌}
+use Prim.Native.Nat.{◌-◌}
 use Rattle.recall_close.proofs.marking.mark.Given as goal
 
 abbrev pub invariant-loop-i : goal.invariant-loop-i

@@ -4,7 +4,6 @@ use borrow.Author.Tests.{not-true, not-false}
 use Rattle.layout.specs.declared.Line.{Line}
 use lib.ListN.{length}
 use mathlib.Core.Path.{refl, ◌∙◌, ap}
-use Rattle.std.proofs.Common.{rules}
 use Rattle.recall_close.proofs.moving.begin_batch.Goals as goal
 
 pub returns-then-not-w : goal.returns-then-not-w

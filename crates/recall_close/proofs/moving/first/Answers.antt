@@ -2,9 +2,7 @@ use lib.ListN.{replicate}
 use mathlib.Core.Bool.{false}
 use Rattle.recall_close.specs.WorkMoving.{walk}
 use Rattle.check_sums.specs.declared.State.{State}
-use Rattle.check_across.specs.WorkSmall.{Small}
-use mathlib.Core.Path.{refl, ap, subst, sym}
-use Rattle.std.proofs.Common.{rules}
+use mathlib.Core.Path.{ap}
 use Rattle.recall_close.proofs.moving.first.Goals as goal
 
 pub returns : goal.returns

@@ -5,7 +5,6 @@ use Rattle.check_across.specs.declared.Sums.{Sums}
 use Prim.Native.Nat.{◌+◌}
 use mathlib.Core.Bool.{true, false}
 use mathlib.Core.Path.{◌∙◌, ap}
-use Rattle.std.proofs.Common.{rules}
 use Rattle.recall_close.proofs.moving.keep_entry.Goals as goal
 
 pub returns : goal.returns

@@ -1,11 +1,9 @@
-use mathlib.Core.Bool.{true, false}
+use mathlib.Core.Bool.{true}
 use Rattle.recall_close.specs.WorkMoving.{walk}
 use Rattle.check_across.specs.declared.Sums.{Sums}
 use mathlib.Core.Path.{ap}
 use Rattle.recall_close.proofs.PutLaws.{room_less, put_none}
-use mathlib.Core.Path.{◌≡◌}
 use mathlib.Core.Path.{refl}
-use Rattle.std.proofs.Common.{rules}
 use Rattle.recall_close.proofs.moving.pass_addendum.Goals as goal
 
 pub put-next-requires : goal.put-next-requires

@@ -1,13 +1,11 @@
-use mathlib.Core.Bool.{true, false}
+use mathlib.Core.Bool.{false}
 use Rattle.recall_close.specs.WorkMoving.{walk}
 use Rattle.check_across.specs.declared.Sums.{Sums}
 use Rattle.recall_close.specs.WorkReady.{put_at}
 use mathlib.Core.List.{[], ◌∷◌}
 use mathlib.Core.Path.{◌∙◌, ap}
-use Rattle.recall_close.proofs.PutLaws.{room_less, put_none}
-use mathlib.Core.Path.{◌≡◌}
+use Rattle.recall_close.proofs.PutLaws.{put_none}
 use mathlib.Core.Path.{refl}
-use Rattle.std.proofs.Common.{rules}
 use Rattle.recall_close.proofs.moving.pass_control.Goals as goal
 
 pub returns-then-w : goal.returns-then-w

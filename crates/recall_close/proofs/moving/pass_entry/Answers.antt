@@ -1,6 +1,5 @@
 use Rattle.recall_close.proofs.PutLaws.{put_none}
 use mathlib.Core.Path.{refl}
-use Rattle.std.proofs.Common.{rules}
 use Rattle.recall_close.proofs.moving.pass_entry.Goals as goal
 
 pub returns-then-is_set : goal.returns-then-is_set

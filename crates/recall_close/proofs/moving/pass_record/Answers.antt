@@ -1,9 +1,7 @@
 use Rattle.recall_close.proofs.PutLaws.{room_less, put_none}
 use Rattle.recall_close.specs.WorkMoving.{walk}
 use Rattle.check_across.specs.declared.Sums.{Sums}
-use mathlib.Core.Path.{◌≡◌}
 use mathlib.Core.Path.{refl, ap}
-use Rattle.std.proofs.Common.{rules}
 use Rattle.recall_close.proofs.moving.pass_record.Goals as goal
 
 pub put-next-requires : goal.put-next-requires

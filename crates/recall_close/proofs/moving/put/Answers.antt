@@ -1,12 +1,6 @@
 use Rattle.recall_close.proofs.PutLaws.{put_inside, put_one}
-use Rattle.check_sums.specs.Sums.{next_sums}
-use Rattle.layout.specs.Ways.{record_bytes}
 use lib.Seq.{length-sets}
-use lib.ListN.{length}
-use Prim.Native.Nat.{◌+◌, ◌*◌, ◌≤◌}
-use mathlib.Core.Path.{◌≡◌}
 use native.Mathlib.Omega.{arith}
-use Rattle.std.proofs.Common.{rules}
 use Rattle.recall_close.proofs.moving.put.Goals as goal
 
 pub overflow_mul-at : goal.overflow_mul-at

@@ -1,6 +1,5 @@
 use borrow.Author.Tests.{ne_eqb}
 use mathlib.Core.Path.{refl}
-use Rattle.std.proofs.Common.{rules}
 use Rattle.recall_close.proofs.moving.sort_of.Goals as goal
 
 pub returns-in-53 : goal.returns-in-53

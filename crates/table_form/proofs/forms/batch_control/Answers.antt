@@ -1,5 +1,4 @@
 use Rattle.table_form.proofs.FormLaws.{batch_control_formed}
-use Rattle.std.proofs.Common.{rules}
 use Rattle.table_form.proofs.forms.batch_control.Goals as goal
 
 pub returns : goal.returns

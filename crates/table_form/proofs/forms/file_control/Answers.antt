@@ -1,5 +1,4 @@
 use Rattle.table_form.proofs.FormLaws.{file_control_formed}
-use Rattle.std.proofs.Common.{rules}
 use Rattle.table_form.proofs.forms.file_control.Goals as goal
 
 pub returns : goal.returns

@@ -1,13 +1,6 @@
 use Rattle.table_form.proofs.ShapeLaws.{sum_first, sum_none, due_yes, due_no}
 use Rattle.view.specs.Table.{addenda_due}
-use Rattle.view.specs.View.{sum_over}
-use Rattle.text.specs.Rows.{rows}
-use lib.ListN.{length, drop}
-use mathlib.Core.Logic.{⊎_elim}
-use mathlib.Core.Path.{◌≡◌}
 use native.Mathlib.Omega.{arith}
-use Prim.Native.Nat.{◌+◌, ◌*◌, ◌≤◌}
-use Rattle.std.proofs.Common.{rules}
 use Rattle.table_form.proofs.shape.due.Goals as goal
 use Rattle.table_form.proofs.shape.due.Goals.{then-table-at-eq49, else-table-at-eq49}
 
@@ -33,15 +26,14 @@ pub loop-left-smaller : goal.loop-left-smaller
 loop-left-smaller c = omega arith
 
 pub loop-left-preserved : goal.loop-left-preserved
-loop-left-preserved c = let step = sum_first addenda_due 93 c.loop-left.left c.loop-left.at c.args.table.now c.loop-left-test.true in
-    (
-      omega arith,
-      elim c.if-table-at-eq49.branch [ then-table-at-eq49 w ↦ omega arith | else-table-at-eq49 w ↦ omega arith ],
-      elim c.if-table-at-eq49.branch [
-        then-table-at-eq49 w ↦ omega (arith, step, due_yes c.args.table.now c.loop-left.at w.if-table-at-eq49.true, c.loop-left.invariant.2)
-      | else-table-at-eq49 w ↦ omega (arith, step, due_no c.args.table.now c.loop-left.at w.if-table-at-eq49.false, c.loop-left.invariant.2)
-      ],
-    )
+loop-left-preserved c = let step = sum_first addenda_due 93 c.loop-left.left c.loop-left.at c.args.table.now c.loop-left-test.true in (
+  omega arith,
+  elim c.if-table-at-eq49.branch [ then-table-at-eq49 w ↦ omega arith | else-table-at-eq49 w ↦ omega arith ],
+  elim c.if-table-at-eq49.branch [
+    | then-table-at-eq49 w ↦ omega (arith, step, due_yes c.args.table.now c.loop-left.at w.if-table-at-eq49.true, c.loop-left.invariant.2)
+    | else-table-at-eq49 w ↦ omega (arith, step, due_no c.args.table.now c.loop-left.at w.if-table-at-eq49.false, c.loop-left.invariant.2)
+  ],
+)
 
 pub returns : goal.returns
 returns c = omega (arith, sum_none addenda_due 93 c.loop-left.left c.loop-left.at c.args.table.now c.loop-left-test.false, c.loop-left.invariant.2)

@@ -1,11 +1,8 @@
-use Rattle.table_form.proofs.ShapeLaws.{sum_first, sum_none, due_yes, due_no}
 use Rattle.view.specs.Table.{addenda_due}
 use Rattle.view.specs.View.{sum_over}
 use Rattle.text.specs.Rows.{rows}
 use lib.ListN.{length, drop}
-use mathlib.Core.Logic.{⊎_elim}
 use mathlib.Core.Path.{◌≡◌}
-use native.Mathlib.Omega.{arith}
 use Prim.Native.Nat.{◌+◌, ◌*◌, ◌≤◌}
 use Rattle.table_form.proofs.shape.due.Given as goal
 

@@ -1,14 +1,9 @@
 use Rattle.table_form.proofs.ShapeLaws.{every_first, every_none, number_at}
-use Rattle.view.specs.Table.{every_row}
-use Rattle.text.specs.Rows.{rows}
 use Rattle.text.specs.Decimal.{digits}
-use lib.ListN.{length, drop}
-use mathlib.Core.Bool.{◌&&◌, and-true}
-use mathlib.Core.Path.{◌≡◌}
+use lib.ListN.{drop}
+use mathlib.Core.Bool.{and-true}
 use native.Mathlib.Omega.{arith}
-use Prim.Native.Nat.{◌+◌, ◌*◌, ◌≤◌}
 use mathlib.Core.Path.{refl, sym, ◌∙◌}
-use Rattle.std.proofs.Common.{rules}
 use Rattle.table_form.proofs.shape.numbered.Goals as goal
 
 pub loop-left-init : goal.loop-left-init

@@ -1,13 +1,10 @@
-use Rattle.table_form.proofs.ShapeLaws.{every_first, every_none, number_at}
 use Rattle.view.specs.Table.{every_row}
 use Rattle.text.specs.Rows.{rows}
 use Rattle.text.specs.Decimal.{digits}
 use lib.ListN.{length, drop}
-use mathlib.Core.Bool.{◌&&◌, and-true}
+use mathlib.Core.Bool.{◌&&◌}
 use mathlib.Core.Path.{◌≡◌}
-use native.Mathlib.Omega.{arith}
 use Prim.Native.Nat.{◌+◌, ◌*◌, ◌≤◌}
-use mathlib.Core.Path.{refl, sym, ◌∙◌}
 use Rattle.table_form.proofs.shape.numbered.Given as goal
 
 abbrev pub invariant-loop-left : goal.invariant-loop-left

@@ -1,6 +1,5 @@
 use Rattle.table_form.proofs.ShapeLaws.{entries_count, counted_by}
 use native.Mathlib.Omega.{arith}
-use Rattle.std.proofs.Common.{rules}
 use Rattle.table_form.proofs.shape.sections.Goals as goal
 
 pub count-batches-requires : goal.count-batches-requires

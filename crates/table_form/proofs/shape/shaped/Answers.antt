@@ -1,8 +1,7 @@
 use Rattle.table_form.proofs.ShapeLaws.{size_fails, plain_fails, numbers_fail, one_fails, taken_fails, due_decides, size_by_lem}
-use borrow.Author.Tests.{eqb-true, ne_eqb, eq-eqb, not-true, not-false}
+use borrow.Author.Tests.{eqb-true, ne_eqb, eq-eqb}
 use native.Mathlib.Omega.{arith}
 use mathlib.Core.Path.{sym, ◌∙◌}
-use Rattle.std.proofs.Common.{rules}
 use Rattle.table_form.proofs.shape.shaped.Goals as goal
 
 pub returns-then-not-sized : goal.returns-then-not-sized

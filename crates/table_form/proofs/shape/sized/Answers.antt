@@ -3,7 +3,6 @@ use Rattle.table_form.proofs.ShapeLaws.{entries_count, addenda_count, size_wrong
 use lib.ListN.{length}
 use native.Mathlib.Omega.{arith}
 use mathlib.Core.Path.{sym, ap}
-use Rattle.std.proofs.Common.{rules}
 use Rattle.table_form.proofs.shape.sized.Goals as goal
 
 pub returns-then-size-lt109 : goal.returns-then-size-lt109

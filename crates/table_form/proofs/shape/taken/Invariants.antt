@@ -1,10 +1,8 @@
-use Rattle.table_form.proofs.ShapeLaws.{sum_first, sum_none, entries_in_lem}
 use Rattle.view.specs.Table.{entries_due}
 use Rattle.view.specs.View.{sum_over}
 use Rattle.text.specs.Rows.{rows}
 use lib.ListN.{length, drop}
 use mathlib.Core.Path.{◌≡◌}
-use native.Mathlib.Omega.{arith}
 use Prim.Native.Nat.{◌+◌, ◌*◌, ◌≤◌}
 use Rattle.table_form.proofs.shape.taken.Given as goal
 

@@ -1,6 +1,5 @@
 use Rattle.table_form.proofs.WalkLaws.{text_room, entry_room}
 use mathlib.Core.Path.{refl}
-use Rattle.std.proofs.Common.{rules}
 use Rattle.table_form.proofs.walking.advance.Goals as goal
 
 pub past_batch-requires : goal.past_batch-requires

@@ -1,5 +1,4 @@
 use Rattle.table_form.proofs.WalkLaws.{text_room}
-use Rattle.std.proofs.Common.{rules}
 use Rattle.table_form.proofs.walking.form.Goals as goal
 
 pub next_batch-requires : goal.next_batch-requires

@@ -5,7 +5,6 @@ use Prim.Native.Nat.{◌+◌, ◌-◌}
 use native.Mathlib.Omega.{arith}
 use borrow.Author.Tests.{lt-ltb, le-ltb}
 use mathlib.Core.Path.{◌∙◌, ap}
-use Rattle.std.proofs.Common.{rules}
 use Rattle.table_form.proofs.walking.next_entry.Goals as goal
 
 pub returns-then-c-gt0 : goal.returns-then-c-gt0

@@ -1,6 +1,5 @@
 use borrow.Author.Tests.{lt-ltb, le-ltb}
 use mathlib.Core.Path.{refl}
-use Rattle.std.proofs.Common.{rules}
 use Rattle.table_form.proofs.walking.past_batch.Goals as goal
 
 pub returns-then-c-gt0 : goal.returns-then-c-gt0

@@ -1,6 +1,5 @@
 use borrow.Author.Tests.{eq-eqb, ne_eqb}
 use mathlib.Core.Path.{refl}
-use Rattle.std.proofs.Common.{rules}
 use Rattle.table_read.proofs.putting.count_after.Goals as goal
 
 pub returns-then-rec-eq53 : goal.returns-then-rec-eq53

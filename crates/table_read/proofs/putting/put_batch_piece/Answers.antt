@@ -1,7 +1,6 @@
 use Rattle.table_read.proofs.Writing.{puts_none, puts_both, room_front, room_rest, batch_opens, batch_closes, batch_not}
 use Rattle.table_read.specs.WorkPasses.{between}
 use native.Mathlib.Omega.{arith}
-use Rattle.std.proofs.Common.{rules}
 use Rattle.table_read.proofs.putting.put_batch_piece.Goals as goal
 
 pub put_part-behind-requires : goal.put_part-behind-requires

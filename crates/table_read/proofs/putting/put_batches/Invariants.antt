@@ -1,7 +1,5 @@
-use Rattle.table_read.proofs.Writing.{left_long, count_small, BatchesLeft, batches_start, batches_room, batches_next, batches_end}
-use Rattle.check_record.proofs.Ways.{columns_at, columns_long, room_for, even_on, even_none, some_bytes, bytes_few}
+use Rattle.table_read.proofs.Writing.{BatchesLeft}
 use Rattle.layout.specs.Ways.{record_bytes}
-use native.Mathlib.Omega.{arith}
 use lib.ListN.{length}
 use mathlib.Core.Path.{◌≡◌}
 use Prim.Native.Nat.{◌-◌, ◌%◌, ◌≤◌}

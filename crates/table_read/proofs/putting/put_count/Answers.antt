@@ -2,7 +2,6 @@ use Rattle.text.proofs.DecimalLaws.{length_render}
 use native.Mathlib.Omega.{arith}
 use lib.Seq.{sets}
 use mathlib.Core.Path.{refl, ◌∙◌, ap}
-use Rattle.std.proofs.Common.{rules}
 use Rattle.table_read.proofs.putting.put_count.Goals as goal
 
 pub copy_into-requires : goal.copy_into-requires

@@ -3,7 +3,6 @@ use Rattle.table_read.specs.WorkPasses.{between}
 use Rattle.text.specs.Decimal.{render}
 use mathlib.Core.List.{◌++◌}
 use native.Mathlib.Omega.{arith}
-use Rattle.std.proofs.Common.{rules}
 use Rattle.table_read.proofs.putting.put_head.Goals as goal
 
 pub put_count-front-requires : goal.put_count-front-requires

@@ -1,6 +1,5 @@
 use Rattle.table_read.proofs.Writing.{puts_none, row_is, row_not}
 use native.Mathlib.Omega.{arith}
-use Rattle.std.proofs.Common.{rules}
 use Rattle.table_read.proofs.putting.put_row.Goals as goal
 
 pub put_part-requires : goal.put_part-requires

@@ -1,11 +1,7 @@
-use Rattle.table_read.proofs.Writing.{left_long, RowsLeft, rows_start, rows_room, rows_next, rows_end}
-use Rattle.check_record.proofs.Ways.{columns_long, room_for, even_on, even_none, some_bytes, bytes_few}
-use Rattle.layout.specs.Ways.{record_bytes}
+use Rattle.table_read.proofs.Writing.{left_long, rows_start, rows_room, rows_next, rows_end}
+use Rattle.check_record.proofs.Ways.{columns_long, room_for, even_on, even_none, some_bytes}
 use native.Mathlib.Omega.{arith}
 use lib.ListN.{length}
-use mathlib.Core.Path.{◌≡◌}
-use Prim.Native.Nat.{◌-◌, ◌%◌, ◌≤◌}
-use Rattle.std.proofs.Common.{rules}
 use Rattle.table_read.proofs.putting.put_rows.Goals as goal
 
 pub loop-at-init : goal.loop-at-init

@@ -4,7 +4,6 @@ use Rattle.table_read.specs.WorkPasses.{head_bytes, batch_bytes, tail_bytes}
 use Rattle.check_record.specs.Record.{columns_in}
 use lib.ListN.{take}
 use mathlib.Core.List.{◌++◌}
-use Rattle.std.proofs.Common.{rules}
 use Rattle.table_read.proofs.putting.put_table.Goals as goal
 
 pub put_head-rows-requires : goal.put_head-rows-requires

@@ -4,7 +4,6 @@ use Rattle.check_record.specs.Record.{columns_in}
 use Rattle.text.specs.Decimal.{render}
 use mathlib.Core.List.{◌++◌}
 use native.Mathlib.Omega.{arith}
-use Rattle.std.proofs.Common.{rules}
 use Rattle.table_read.proofs.putting.put_tail.Goals as goal
 
 pub put_count-rows-requires : goal.put_count-rows-requires

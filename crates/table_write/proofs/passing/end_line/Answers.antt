@@ -1,7 +1,6 @@
 use Rattle.table_write.proofs.PassLaws.{plain_end, lined_end, lined_room}
 use lib.ListN.{length, length-set}
 use native.Mathlib.Omega.{arith}
-use Rattle.std.proofs.Common.{rules}
 use Rattle.table_write.proofs.passing.end_line.Goals as goal
 
 pub bounds-file-at : goal.bounds-file-at

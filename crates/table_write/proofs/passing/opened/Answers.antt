@@ -1,5 +1,4 @@
 use mathlib.Core.Path.{refl}
-use Rattle.std.proofs.Common.{rules}
 use Rattle.table_write.proofs.passing.opened.Goals as goal
 
 pub returns : goal.returns
