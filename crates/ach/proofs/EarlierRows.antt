@@ -40,8 +40,8 @@ row_apart rows j k cents d =
     )
 
 none_more : (rows : List ℕ) (n cents : ℕ) → known (code_of n) ≡ true → remits (code_of n) ≡ false → NoRemittance rows → NoRemittance (add_to_row rows (code_row n) cents)
-none_more rows n cents is_Known is-money f k l e =
-    let other : code_row n ≡ k → ⊥ = λ same. false≢true (sym is-money ∙ ap (λ c. remits (code_of c)) (sym (code_back n is_Known) ∙ ap (λ j. get_or codes j 0) same) ∙ e) in
+none_more rows n cents is_known is-money f k l e =
+    let other : code_row n ≡ k → ⊥ = λ same. false≢true (sym is-money ∙ ap (λ c. remits (code_of c)) (sym (code_back n is_known) ∙ ap (λ j. get_or codes j 0) same) ∙ e) in
     let apart = row_apart rows (code_row n) k cents other in
     (apart.0 ∙ (f k l e).0, apart.1 ∙ (f k l e).1)
 
@@ -49,8 +49,8 @@ tally_none : (st : State) (line : Line) (r : List ℕ) → RightBy unremitted st
 tally_none st Line.FileHeader r a f = f
 tally_none st Line.BatchHeader r a f = f
 tally_none st Line.Entry r a f =
-    let is_Known = ap known (sym (same_code st.sums st.header r a)) ∙ (told st.sums st.header r a).1 in
-    none_more st.bycode (entry_code r) (entry_amount r) is_Known (money st.sums st.header r a) f
+    let is_known = ap known (sym (same_code st.sums st.header r a)) ∙ (told st.sums st.header r a).1 in
+    none_more st.bycode (entry_code r) (entry_amount r) is_known (money st.sums st.header r a) f
 tally_none st Line.Addendum r a f = f
 tally_none st Line.BatchControl r a f = f
 tally_none st Line.FileControl r a f = f
