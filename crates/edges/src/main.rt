@@ -14,7 +14,9 @@ fn check_file(rt: &(impl Files + Print), path: &str) -> io::Result<()> {
 
 fn main(rt: HostRuntime) -> io::Result<()> {
     for path in env::args(&rt)?.skip(1) {
-        check_file(&rt, path.as_str())?;
+        if let Err(error) = check_file(&rt, path.as_str()) {
+            eprintln!(rt; "{path}: {error}")?;
+        }
     }
     Ok(())
 }
