@@ -53,12 +53,12 @@ fn defined_row(line: &str) -> Row {
 }
 
 const NAMES: [(u8, &str, &str); 6] = [
-    (b'1', "FILE_HEADER", "fileHeader"),
-    (b'5', "BATCH_HEADER", "batchHeader"),
+    (b'1', "FILE_HEADER", "file_header"),
+    (b'5', "BATCH_HEADER", "batch_header"),
     (b'6', "ENTRY", "entry"),
     (b'7', "ADDENDUM", "addendum"),
-    (b'8', "BATCH_CONTROL", "batchControl"),
-    (b'9', "FILE_CONTROL", "fileControl"),
+    (b'8', "BATCH_CONTROL", "batch_control"),
+    (b'9', "FILE_CONTROL", "file_control"),
 ];
 
 #[test]
