@@ -25,6 +25,7 @@ pub fn refused(fault: Fault, number: u64, k: u64) -> Checked
 }
 
 // The answer where the data end.
+#[tactic(auto, unfolding(crate::specs::Record::finished))]
 pub fn finished(st: State) -> Checked
     requires { st.sums.records < 10000000 }
     ensures { result ≡ finished st }

@@ -4,6 +4,7 @@ ghost use Rattle.table_read.specs.WorkPuts.{Puts, Room};
 ghost use Rattle.csv_export.specs.Quoting.{trimmed, escaped, doubled, quoted, unpadded, amount_text};
 
 // How many bytes a field has without the blanks at its end.
+#[tactic(auto, using(crate::proofs::FieldLaws::kept_turn, crate::proofs::FieldLaws::kept_stop))]
 fn kept(field: &[u8]) -> usize
     ensures { result ≡ length (trimmed field.now) }
 {
@@ -18,6 +19,7 @@ fn kept(field: &[u8]) -> usize
 }
 
 // How many leading zeros the dollars of an amount have, their last digit aside.
+#[tactic(auto, using(crate::proofs::FieldLaws::padding_turn, crate::proofs::FieldLaws::padding_stop))]
 fn padding(dollars: &[u8]) -> usize
     ensures { (result ≤ length dollars.now) × (drop result dollars.now ≡ unpadded dollars.now) }
 {

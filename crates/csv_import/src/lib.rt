@@ -22,6 +22,7 @@ fn rows_fit(filerow: &[u8], batchrow: &[u8], count: u64) -> bool
 }
 
 // What importing says before it asks for room, and how many lines there are.
+#[tactic(auto, using(crate::proofs::Judging::many_lines))]
 fn judge_list(filerow: &[u8], batchrow: &[u8], lines: &[u8]) -> Listing
     ensures { (result.answer ≡ import_answer filerow.now batchrow.now lines.now) × (result.answer ≡ Answer.Granted → (result.count ≡ length (lines_in lines.now)) × (result.count ≤ 999996)) }
 {

@@ -39,6 +39,7 @@ pub fn fill(way: Way, file: &[u8], rows: &mut [u64])
 }
 
 // Whether the lent numbers begin with the list of an accepted file.
+#[tactic(auto, using(crate::proofs::WalkLaws::too_short))]
 pub fn is_true_list(way: Way, file: &[u8], rows: &[u64]) -> bool
     requires { (checked_of way file.now).answer ≡ Answer.Granted }
     ensures { result ≡ true_list way file.now rows.now }

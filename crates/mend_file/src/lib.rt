@@ -57,6 +57,7 @@ struct Plan {
 }
 
 // How much the rows of a record 8 take, with what is told before it; any other record has none.
+#[tactic(auto, using(crate::proofs::ListLaws::control_none, crate::proofs::FieldLaws::none_listed))]
 fn control_listed(sums: Sums, header: &[u8], raw: &[u8]) -> Listed
     requires { (length header.now ≡ 94) × (94 ≤ length raw.now) }
     ensures { (result ≡ listed_of (control_rows 0 raw.now (mended_record sums header.now raw.now))) × (result.rows ≤ 13) × (result.bytes ≤ 2561) }

@@ -8,6 +8,7 @@ use layout::Line;
 use table_form::forms;
 
 // What a record that begins with this byte is summed as, wherever it stands.
+#[tactic(auto, unfolding(mend::specs::Mend::line_by))]
 pub fn line_by(b: u8) -> Line
     ensures { result ≡ line_by b }
 {
@@ -50,6 +51,7 @@ fn kept(rec: &[u8]) -> [u8; 94]
 }
 
 // The columns of the mended record: a record 8 behind a record 5 is filled in, and any other stays.
+#[tactic(auto, using(crate::proofs::RefillLaws::no_batch))]
 pub fn mended(sums: Sums, header: &[u8], rec: &[u8]) -> [u8; 94]
     requires { (length header.now ≡ 94) × (length rec.now ≡ 94) }
     ensures { result ≡ mended_record sums header.now rec.now }

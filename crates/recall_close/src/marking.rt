@@ -7,6 +7,7 @@ ghost use Rattle.recall_close.specs.WorkMoving.{gone, some_left};
 use crate::bits;
 
 // Flags each number of the list; false where one of them is no entry's.
+#[tactic(auto, using(crate::proofs::MarkLaws::bad_past))]
 pub fn mark(flags: &mut [u8], numbers: &[u64], count: u64) -> bool
     requires { (length flags.old ≡ 125000) × (count < 1000000) × ((k : ℕ) → gone flags.old k ≡ false) }
     ensures { (length flags.new ≡ 125000) × ((v : View) → length (entries_of v) ≡ count → result ≡ all_exist v numbers.now) × (result ≡ true → (k : ℕ) → gone flags.new k ≡ named k numbers.now) }

@@ -1,4 +1,4 @@
-use Rattle.funds.proofs.WalkLaws.{comparing_first, too_short, other_number, other_credits, comparing_on, compared, sum_fits, few}
+use Rattle.funds.proofs.WalkLaws.{comparing_first, other_number, other_credits, comparing_on, compared, sum_fits, few}
 use Rattle.find_entry.proofs.Parts.{starts}
 use Rattle.check_record.proofs.Ways.{some_bytes}
 use lib.ListN.{length}
@@ -21,35 +21,32 @@ overflow_add-credits c = rw c.control_credit-credits.ensures (record { fits = su
 pub overflow_sub-rows : goal.overflow_sub-rows
 overflow_sub-rows c = c.loop-i.invariant.inside
 
-pub returns-then-rows-seen-lt2 : goal.returns-then-rows-seen-lt2
-returns-then-rows-seen-lt2 c = too_short c.args.way c.args.file.now c.args.rows.now (c.requires) c.loop-i.invariant (rw c.record_bytes.ensures at c.loop-i-test.true) c.if-rows-seen-lt2.true
-
 pub offset_bounds-rows-seen : goal.offset_bounds-rows-seen
-offset_bounds-rows-seen c = record { fits = omega (arith, c.if-rows-seen-lt2.false) }
+offset_bounds-rows-seen c = record { fits = omega arith }
 
 pub bounds-rows-seen : goal.bounds-rows-seen
-bounds-rows-seen c = omega (arith, c.if-rows-seen-lt2.false)
+bounds-rows-seen c = omega arith
 
 pub overflow_add-i : goal.overflow_add-i
 overflow_add-i c = record { fits = omega (arith, few c.args.way c.args.file.now (c.requires), (rw c.record_bytes.ensures at c.loop-i-test.true)) }
 
 pub returns-then-rows-seen : goal.returns-then-rows-seen
-returns-then-rows-seen c = other_number c.args.way c.args.file.now c.args.rows.now (c.requires) c.loop-i.invariant (rw c.record_bytes.ensures at c.loop-i-test.true) c.if-rows-seen-lt2.false c.if-rows-seen.true
+returns-then-rows-seen c = other_number c.args.way c.args.file.now c.args.rows.now (c.requires) c.loop-i.invariant (rw c.record_bytes.ensures at c.loop-i-test.true) (omega arith) c.if-rows-seen.true
 
 pub overflow_add-seen : goal.overflow_add-seen
-overflow_add-seen c = record { fits = omega (arith, c.if-rows-seen-lt2.false) }
+overflow_add-seen c = record { fits = omega arith }
 
 pub offset_bounds-rows-seen-in-loop-i : goal.offset_bounds-rows-seen-in-loop-i
-offset_bounds-rows-seen-in-loop-i c = record { fits = omega (arith, c.if-rows-seen-lt2.false) }
+offset_bounds-rows-seen-in-loop-i c = record { fits = omega arith }
 
 pub bounds-rows-seen-in-loop-i : goal.bounds-rows-seen-in-loop-i
-bounds-rows-seen-in-loop-i c = omega (arith, c.if-rows-seen-lt2.false)
+bounds-rows-seen-in-loop-i c = omega arith
 
 pub returns-then-rows-seen-2 : goal.returns-then-rows-seen-2
-returns-then-rows-seen-2 c = other_credits c.args.way c.args.file.now c.args.rows.now (c.requires) c.loop-i.invariant (rw c.record_bytes.ensures at c.loop-i-test.true) c.if-rows-seen-lt2.false c.if-rows-seen.false (rw c.control_credit-credits.ensures at c.if-rows-seen-2.true)
+returns-then-rows-seen-2 c = other_credits c.args.way c.args.file.now c.args.rows.now (c.requires) c.loop-i.invariant (rw c.record_bytes.ensures at c.loop-i-test.true) (omega arith) c.if-rows-seen.false (rw c.control_credit-credits.ensures at c.if-rows-seen-2.true)
 
 pub overflow_add-seen-in-loop-i : goal.overflow_add-seen-in-loop-i
-overflow_add-seen-in-loop-i c = record { fits = omega (arith, c.if-rows-seen-lt2.false) }
+overflow_add-seen-in-loop-i c = record { fits = omega arith }
 
 pub overflow_add-i-in-loop-i : goal.overflow_add-i-in-loop-i
 overflow_add-i-in-loop-i c = record { fits = omega (arith, few c.args.way c.args.file.now (c.requires), (rw c.record_bytes.ensures at c.loop-i-test.true)) }
@@ -61,7 +58,7 @@ pub loop-i-smaller : goal.loop-i-smaller
 loop-i-smaller c = rw c.nth-i-in-loop-i.ensures (omega (arith, (rw c.record_bytes.ensures at c.loop-i-test.true)))
 
 pub loop-i-preserved : goal.loop-i-preserved
-loop-i-preserved c = rw c.control_credit-credits.ensures (comparing_on c.args.way c.args.file.now c.args.rows.now (c.requires) c.loop-i.invariant (rw c.record_bytes.ensures at c.loop-i-test.true) c.if-rows-seen-lt2.false c.if-rows-seen.false (rw c.control_credit-credits.ensures at c.if-rows-seen-2.false) c.nth-i-in-loop-i.result c.nth-i-in-loop-i.ensures)
+loop-i-preserved c = rw c.control_credit-credits.ensures (comparing_on c.args.way c.args.file.now c.args.rows.now (c.requires) c.loop-i.invariant (rw c.record_bytes.ensures at c.loop-i-test.true) (omega arith) c.if-rows-seen.false (rw c.control_credit-credits.ensures at c.if-rows-seen-2.false) c.nth-i-in-loop-i.result c.nth-i-in-loop-i.ensures)
 
 pub returns : goal.returns
 returns c = compared c.args.way c.args.file.now c.args.rows.now (c.requires) c.loop-i.invariant (rw c.record_bytes.ensures at c.loop-i-test.false)

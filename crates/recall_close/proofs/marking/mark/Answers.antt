@@ -1,4 +1,4 @@
-use Rattle.recall_close.proofs.MarkLaws.{marking_first, bad_zero, bad_past, marking_on, all_there, all_marked}
+use Rattle.recall_close.proofs.MarkLaws.{marking_first, bad_zero, marking_on, all_there, all_marked}
 use Rattle.view_laws.proofs.BridgeFields.{never}
 use native.Mathlib.Omega.{arith}
 use mathlib.Core.Path.{sym, ◌∙◌}
@@ -13,17 +13,11 @@ shape_of-flags-then-n-lt1 c = c.loop-i.invariant.long ∙ sym c.requires.0
 pub returns-then-n-lt1 : goal.returns-then-n-lt1
 returns-then-n-lt1 c = (c.loop-i.invariant.long, bad_zero c.loop-i.invariant c.loop-i-test.true c.if-n-lt1.true, λ e. never e)
 
-pub shape_of-flags-then-count-n : goal.shape_of-flags-then-count-n
-shape_of-flags-then-count-n c = c.loop-i.invariant.long ∙ sym c.requires.0
-
-pub returns-then-count-n : goal.returns-then-count-n
-returns-then-count-n c = (c.loop-i.invariant.long, bad_past c.loop-i.invariant c.loop-i-test.true c.if-count-n.true c.if-n-lt1.false, λ e. never e)
-
 pub set-requires : goal.set-requires
-set-requires c = omega (arith, c.loop-i.invariant.long, c.if-count-n.false, c.requires.1)
+set-requires c = omega (arith, c.loop-i.invariant.long, c.requires.1)
 
 pub loop-i-preserved : goal.loop-i-preserved
-loop-i-preserved c = marking_on c.loop-i.invariant c.loop-i-test.true c.if-n-lt1.false c.if-count-n.false _ c.set.ensures.0 c.set.ensures.1
+loop-i-preserved c = marking_on c.loop-i.invariant c.loop-i-test.true (omega arith) (omega arith) _ c.set.ensures.0 c.set.ensures.1
 
 pub shape_of-flags : goal.shape_of-flags
 shape_of-flags c = c.loop-i.invariant.long ∙ sym c.requires.0
