@@ -1,5 +1,6 @@
 -- How large the numbers of an answer can be: the number at most 34, the field at most 13, the record at most 1,000,001.
 -- Assumes nothing.
+use Rattle.std.specs.Prelude.{Ok, Err}
 use mathlib.Core.Path.{◌≡◌, refl, ◌∙◌}
 use mathlib.Core.Bool.{Bool, true, false, ◌&&◌}
 use mathlib.Core.List.{List, [], ◌∷◌, map}
@@ -15,19 +16,19 @@ use Rattle.text.specs.Same.{same_bytes}
 use Rattle.text.proofs.DecimalLaws.{and_both}
 use Rattle.text.proofs.RowLaws.{length_rows}
 use Rattle.layout.specs.declared.Fault.{Fault}
-use Rattle.layout.specs.declared.Answer.{Answer}
+use Rattle.layout.specs.Answers.{Answer}
 use Rattle.layout.specs.declared.Refusal.{Refusal}
 use Rattle.layout.specs.declared.Row.{Row}
 use Rattle.layout.specs.declared.Line.{Line}
 use Rattle.layout.specs.Fields.{rows_of, first_field}
 use Rattle.layout.specs.Paper.{refusal}
-use Rattle.check_alone.specs.declared.Mark.{Mark}
+use Rattle.check_alone.specs.Mark.{Mark}
 use Rattle.check_codes.specs.declared.Code.{Code}
 use Rattle.check_codes.specs.Codes.{code_of, carries}
 use Rattle.check_across.specs.declared.Sums.{Sums}
 use Rattle.check_field.specs.Field.{field_of}
 use Rattle.check_sums.specs.declared.State.{State}
-use Rattle.check_record.specs.declared.Verdict.{Verdict}
+use Rattle.check_record.specs.Verdict.{Verdict}
 use Rattle.check_order.specs.Order.{complete}
 use Rattle.check_sums.specs.Sums.{start, tally}
 use Rattle.check_record.specs.Record.{found, fields_from, line_of, Piece, closing, stepped, onward, refused, accepted, run_from, length_fits, most_records, raw_records, piece_of, checked_of}
@@ -41,7 +42,7 @@ use Rattle.view.specs.Outcome.{Spot, demand, and_then, room, made, read_of, writ
 use Rattle.view_laws.proofs.Bridge.{accepted_view}
 use Rattle.find_entry.proofs.Places.{in_order}
 use Rattle.layout.specs.declared.Way.{Way}
-use Rattle.layout.specs.declared.Checked.{Checked}
+use Rattle.layout.specs.Answers.{Checked}
 use Rattle.csv_cells.specs.Cells.{lines_in, six_fields, six_texts}
 use Rattle.csv_entry.specs.Entries.{field_right, field_fault, try, texts_verdict, line_verdict}
 use Rattle.csv_entry.specs.Import.{line_answer, lines_answer, import_table, rows_fit, import_answer, import_of}
@@ -61,18 +62,18 @@ pub record Bounded (x : Refusal) : Type 0 where
   pub number : x.record.0 ≤ 1000001
 
 abbrev pub Low : Answer → Type 0
-Low Answer.Granted = Unit {0}
-Low (Answer.Refused x) = Bounded x
+Low (Ok _) = Unit {0}
+Low (Err x) = Bounded x
 
-pub low_refused : (a : Answer) (x : Refusal) → Low a → a ≡ Answer.Refused x → Bounded x
+pub low_refused : (a : Answer) (x : Refusal) → Low a → a ≡ Err x → Bounded x
 low_refused a x l e = rw e at l
 
 -- ---- the check
 
 -- no table has more than thirteen fields
 abbrev LowVerdict : ℕ → Verdict → Type 0
-LowVerdict n Verdict.Passed = Unit {0}
-LowVerdict n (Verdict.Failed fault k) = k < n
+LowVerdict n (Ok _) = Unit {0}
+LowVerdict n (Err wrong) = wrong.field < n
 
 fields_low : (k n : ℕ) (rows : List Row) (s : Sums) (h r : List ℕ) → k + length rows ≤ n → LowVerdict n (fields_from k rows s h r)
 unfolding fields_from
@@ -80,8 +81,8 @@ fields_low k n [] s h r l = tt
 fields_low k n (row ∷ rows) s h r l = go (field_of s h r row) (fields_low (k + 1) n rows s h r (omega (arith, l)))
   where
     go : (m : Mark) → LowVerdict n (fields_from (k + 1) rows s h r) → LowVerdict n (found m k (fields_from (k + 1) rows s h r))
-    go Mark.Right later = later
-    go (Mark.Wrong fault) later = omega (arith, l)
+    go (Ok _) later = later
+    go (Err fault) later = omega (arith, l)
 
 line_low : (line : Line) → first_field line + length (rows_of line) ≤ 14
 line_low line = omega (arith, laws.first_le line, laws.rows_few line)
@@ -108,10 +109,10 @@ run_low st (p ∷ ps) l =
   where
     go : (b : Bool) (v : Verdict) → LowVerdict 14 v → Low (run_from (tally st (line_of st p.columns) p.columns) ps).answer
         → Low (carried (closing b v) (tally st (line_of st p.columns) p.columns) st ps).answer
-    go true Verdict.Passed f later = later
-    go true (Verdict.Failed fault k) f later = record { field = omega (arith, f); number = omega (arith, l) }
-    go false Verdict.Passed f later = record { field = lit≤ tt; number = omega (arith, l) }
-    go false (Verdict.Failed fault k) f later = record { field = omega (arith, f); number = omega (arith, l) }
+    go true (Ok _) f later = later
+    go true (Err wrong) f later = record { field = omega (arith, f); number = omega (arith, l) }
+    go false (Ok _) f later = record { field = lit≤ tt; number = omega (arith, l) }
+    go false (Err wrong) f later = record { field = omega (arith, f); number = omega (arith, l) }
 
 file_low : (way : Way) (f : List ℕ) → Low (checked_of way f).answer
 file_low way f = go (length_fits way (length f)) refl
@@ -126,9 +127,9 @@ file_low way f = go (length_fits way (length f)) refl
 
 -- ---- the other questions
 
-low_then : (a b : Answer) → Low a → (a ≡ Answer.Granted → Low b) → Low (and_then a b)
-low_then Answer.Granted b l m = m refl
-low_then (Answer.Refused x) b l m = l
+low_then : (a b : Answer) → Low a → (a ≡ Ok tt → Low b) → Low (and_then a b)
+low_then (Ok _) b l m = m refl
+low_then (Err x) b l m = l
 
 low_demand : (t : Bool) (refuse rest : Answer) → Low refuse → (t ≡ true → Low rest) → Low (demand t refuse rest)
 low_demand true refuse rest l m = m refl
@@ -139,29 +140,29 @@ low_whole : (fault : Fault) → Low (refusal fault 0 0)
 low_whole fault = record { field = lit≤ tt; number = lit≤ tt }
 
 low_made : (x : Answer) (result buffer : List ℕ) → Low x → Low (made x result buffer).gives.answer
-low_made Answer.Granted result buffer l = tt
-low_made (Answer.Refused x) result buffer l = l
+low_made (Ok _) result buffer l = tt
+low_made (Err x) result buffer l = l
 
 low_altered : (x : Answer) (d : ℤ) (result f : List ℕ) → Low x → Low (altered x d result f).gives.answer
-low_altered Answer.Granted d result f l = tt
-low_altered (Answer.Refused x) d result f l = l
+low_altered (Ok _) d result f l = tt
+low_altered (Err x) d result f l = l
 
 low_shortened : (x : Answer) (result f : List ℕ) → Low x → Low (shortened x result f).gives.answer
-low_shortened Answer.Granted result f l = tt
-low_shortened (Answer.Refused x) result f l = l
+low_shortened (Ok _) result f l = tt
+low_shortened (Err x) result f l = l
 
 low_room : (result buffer : List ℕ) → Low (room result buffer)
-low_room result buffer = low_demand (leb (length result) (length buffer)) (refusal Fault.Room 0 0) Answer.Granted (low_whole Fault.Room) λ e. tt
+low_room result buffer = low_demand (leb (length result) (length buffer)) (refusal Fault.Room 0 0) (Ok tt) (low_whole Fault.Room) λ e. tt
 
 low_given : (x : Answer) (c : Checked) → Low x → Low c.answer → Low (given x c).answer
-low_given Answer.Granted c l m = m
-low_given (Answer.Refused r) c l m = record { field = l.field; number = l.number }
+low_given (Ok _) c l m = m
+low_given (Err r) c l m = record { field = l.field; number = l.number }
 
 pub check_low : (way : Way) (f held : List ℕ) → Low (check_of way f held).gives.answer
 check_low way f held =
-    let last = demand (enough_rows (view_of way f) (length held)) (refusal Fault.Room 0 0) Answer.Granted in
+    let last = demand (enough_rows (view_of way f) (length held)) (refusal Fault.Room 0 0) (Ok tt) in
     low_given (check_answer way f held) (checked_of way f)
-    (low_then (checked_of way f).answer last (file_low way f) λ e. low_demand (enough_rows (view_of way f) (length held)) (refusal Fault.Room 0 0) Answer.Granted (low_whole Fault.Room) λ x. tt)
+    (low_then (checked_of way f).answer last (file_low way f) λ e. low_demand (enough_rows (view_of way f) (length held)) (refusal Fault.Room 0 0) (Ok tt) (low_whole Fault.Room) λ x. tt)
     (file_low way f)
 
 pub read_low : (way : Way) (f table : List ℕ) → Low (read_of way f table).gives.answer
@@ -197,18 +198,18 @@ pub mend_low : (way : Way) (f held list : List ℕ) → Low (mend_of way f held 
 mend_low way f held list =
     let checked = (checked_of way (mended_file way f)).answer in
     let enough = leb (length (mended_file way f)) (length held) && leb (length (changes_of way f)) (length list) in
-    let last = demand enough (refusal Fault.Room 0 0) Answer.Granted in
+    let last = demand enough (refusal Fault.Room 0 0) (Ok tt) in
     low_demand (length_fits way (length f)) (refusal Fault.Length 0 0) (and_then checked (and_then (behind_nine (raw_records way f)) last)) (low_whole Fault.Length)
     λ h. low_then checked (and_then (behind_nine (raw_records way f)) last) (file_low way (mended_file way f))
     λ e. low_then (behind_nine (raw_records way f)) last (behind_low way f h)
-    λ g. low_demand enough (refusal Fault.Room 0 0) Answer.Granted (low_whole Fault.Room) λ x. tt
+    λ g. low_demand enough (refusal Fault.Room 0 0) (Ok tt) (low_whole Fault.Room) λ x. tt
 
 pub addendum_low : (way : Way) (f : List ℕ) (k : ℕ) → Low (addendum_answer way f k)
 addendum_low way f k =
     low_then (checked_of way f).answer _ (file_low way f)
-    λ e. low_demand (exists (view_of way f) k) (refusal Fault.NoEntry 0 0) Answer.Granted (low_whole Fault.NoEntry) λ h. tt
+    λ e. low_demand (exists (view_of way f) k) (refusal Fault.NoEntry 0 0) (Ok tt) (low_whole Fault.NoEntry) λ h. tt
 
-two_low : (t u : Bool) (m n j k : ℕ) → m ≤ 1000001 → n ≤ 1000001 → j ≤ 13 → k ≤ 13 → Low (demand t (refusal Fault.Limit m j) (demand u (refusal Fault.Limit n k) Answer.Granted))
+two_low : (t u : Bool) (m n j k : ℕ) → m ≤ 1000001 → n ≤ 1000001 → j ≤ 13 → k ≤ 13 → Low (demand t (refusal Fault.Limit m j) (demand u (refusal Fault.Limit n k) (Ok tt)))
 two_low false u m n j k p q f g = record { field = f; number = p }
 two_low true false m n j k p q f g = record { field = g; number = q }
 two_low true true m n j k p q f g = tt
@@ -248,12 +249,12 @@ recall_low way f ns held =
     let left = leb 1 (length (entries_of (without v ns))) in
     let none = refusal Fault.NoneLeft 0 0 in
     let enough = enough_rows (without v ns) (length held) in
-    let last = demand enough (refusal Fault.Room 0 0) Answer.Granted in
+    let last = demand enough (refusal Fault.Room 0 0) (Ok tt) in
     low_shortened (take_out_answer way f ns (length held)) (file_of way (without v ns)) f
     (low_then (checked_of way f).answer (demand (all_exist v ns) (refusal Fault.NoEntry 0 0) (demand left none last)) (file_low way f)
     λ g. low_demand (all_exist v ns) (refusal Fault.NoEntry 0 0) (demand left none last) (low_whole Fault.NoEntry)
     λ x. low_demand left none last (low_whole Fault.NoneLeft)
-    λ y. low_demand enough (refusal Fault.Room 0 0) Answer.Granted (low_whole Fault.Room) λ z. tt)
+    λ y. low_demand enough (refusal Fault.Room 0 0) (Ok tt) (low_whole Fault.Room) λ z. tt)
 
 -- ---- client lists
 
@@ -266,20 +267,20 @@ export_low t lines =
 
 -- a line's number stands for the record, and may be larger than that of any record: these bounds are those of a code's bits
 abbrev pub Coded : Answer → Type 0
-Coded Answer.Granted = Unit {0}
-Coded (Answer.Refused x) = (x.field ≤ 13) × (x.record.0 ≤ 4294967295)
+Coded (Ok _) = Unit {0}
+Coded (Err x) = (x.field ≤ 13) × (x.record.0 ≤ 4294967295)
 
 pub low_coded : (a : Answer) → Low a → Coded a
-low_coded Answer.Granted l = tt
-low_coded (Answer.Refused x) l = (l.field, omega (arith, l.number))
+low_coded (Ok _) l = tt
+low_coded (Err x) l = (l.field, omega (arith, l.number))
 
 coded_then : (a b : Answer) → Coded a → Coded b → Coded (and_then a b)
-coded_then Answer.Granted b l m = m
-coded_then (Answer.Refused x) b l m = l
+coded_then (Ok _) b l m = m
+coded_then (Err x) b l m = l
 
 coded_made : (x : Answer) (result buffer : List ℕ) → Coded x → Coded (made x result buffer).gives.answer
-coded_made Answer.Granted result buffer l = tt
-coded_made (Answer.Refused x) result buffer l = l
+coded_made (Ok _) result buffer l = tt
+coded_made (Err x) result buffer l = l
 
 texts_low : (k n : ℕ) (ps : List (List ℕ)) → k + length ps ≤ n → LowVerdict n (texts_verdict k ps)
 unfolding texts_verdict
@@ -303,8 +304,8 @@ lines_coded k [] h = tt
 lines_coded k (l ∷ ls) h = go (line_verdict l) (list_line_low l) (lines_coded (k + 1) ls (omega arith))
   where
     go : (v : Verdict) → LowVerdict 14 v → Coded (lines_answer (k + 1) ls) → Coded (line_answer v k (lines_answer (k + 1) ls))
-    go Verdict.Passed low rest = rest
-    go (Verdict.Failed fault j) low rest = (omega arith, omega arith)
+    go (Ok _) low rest = rest
+    go (Err wrong) low rest = (omega arith, omega arith)
 
 pub import_coded : (filerow batchrow lines table : List ℕ) → length lines ≤ 4294967295 → Coded (import_of filerow batchrow lines table).gives.answer
 import_coded filerow batchrow lines table h =

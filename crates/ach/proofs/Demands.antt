@@ -1,5 +1,6 @@
 -- The three demands, sentence by sentence, over the contracts alone: whatever outcome a contract permits has these properties.
 -- Assumes nothing.
+use Rattle.std.specs.Prelude.{Ok, Err}
 use mathlib.Core.Path.{◌≡◌, refl, sym, ap, ◌∙◌, subst}
 use mathlib.Core.Logic.{◌↔◌, ◌⊎◌, inl, inr}
 use mathlib.Core.Bool.{true, false}
@@ -11,14 +12,14 @@ use lib.IntN.{pos, ◌-ℤ◌}
 use Rattle.text.specs.Decimal.{render}
 use Rattle.text.specs.Rows.{joined}
 use Rattle.layout.specs.declared.Fault.{Fault}
-use Rattle.layout.specs.declared.Answer.{Answer}
+use Rattle.layout.specs.Answers.{Answer}
 use Rattle.layout.specs.declared.Refusal.{Refusal}
-use Rattle.layout.specs.declared.Checked.{Checked}
-use Rattle.layout.specs.declared.Made.{Made}
-use Rattle.layout.specs.declared.Altered.{Altered}
+use Rattle.layout.specs.Answers.{Checked}
+use Rattle.layout.specs.Answers.{Made}
+use Rattle.layout.specs.Answers.{Altered}
 use Rattle.layout.specs.Fields.{part, entry, batch_control, file_control}
 use Rattle.layout.specs.Paper.{paper_of}
-use Rattle.find_entry.specs.declared.AskedSpan.{AskedSpan}
+use Rattle.find_entry.specs.AskedSpan.{AskedSpan}
 use Rattle.check_sums.specs.Sums.{start}
 use Rattle.check_record.specs.Record.{length_fits, raw_records, columns_in, piece_of, checked_of}
 use Rattle.view.specs.View.{View, sum_over, debit_of, credit_of, amount_of, entries_of, file_control_record, records_of, view_of}
@@ -109,34 +110,34 @@ module _ (way : Way) where
   -- It grants, or names the first refusal by number, record and field.
 
   -- the answer is a grant, numbered 0, or a refusal, numbered 1 to 34
-  pub grants_or_names : (a : Answer) → ((a ≡ Answer.Granted) × ((paper_of a).number ≡ 0)) ⊎ ((x : Refusal) × (a ≡ Answer.Refused x) × (1 ≤ (paper_of a).number) × ((paper_of a).number ≤ 34))
-  grants_or_names Answer.Granted = inl (refl, refl)
-  grants_or_names (Answer.Refused x) = inr (x, refl, (number_range x.fault).0, (number_range x.fault).1)
+  pub grants_or_names : (a : Answer) → ((a ≡ Ok tt) × ((paper_of a).number ≡ 0)) ⊎ ((x : Refusal) × (a ≡ Err x) × (1 ≤ (paper_of a).number) × ((paper_of a).number ≤ 34))
+  grants_or_names (Ok _) = inl (refl, refl)
+  grants_or_names (Err x) = inr (x, refl, (number_range x.fault).0, (number_range x.fault).1)
 
   -- the file's own is the one where the run over records and fields in order stops: all records before passed, and all fields before were right
-  pub check_first : (f held left : List ℕ) (r : Checked) (x : Refusal) → Checks way f held r left → (checked_of way f).answer ≡ Answer.Refused x
-      → (paper_of r.answer ≡ paper_of (Answer.Refused x))
+  pub check_first : (f held left : List ℕ) (r : Checked) (x : Refusal) → Checks way f held r left → (checked_of way f).answer ≡ Err x
+      → (paper_of r.answer ≡ paper_of (Err x))
       × (((length_fits way (length f) ≡ false) × (x.fault ≡ Fault.Length) × (x.record.0 ≡ 0) × (x.field ≡ 0)) ⊎ First start (map (piece_of way) (raw_records way f)) x)
   check_first f held left r x p e = (ap (λ (c : Checked). paper_of c.answer) (p.0 ∙ (check_own way f held x e).0) ∙ ap paper_of e, refused_first way f x e)
 
   -- such a file is refused by checking, reading, altering and asking for an addendum, with the same number, record and field, whatever else is lent
   pub file_refused : (f held left kept rows list table : List ℕ) (k a : ℕ) (c : Checked) (r : Made) (s : Altered) (e : Answer) (x : Refusal)
-      → (checked_of way f).answer ≡ Answer.Refused x → Checks way f rows c list → Reads way f table r left → Alters way f rows k a s kept held → Explains way f k e
-      → (c.answer ≡ Answer.Refused x) × (r.answer ≡ Answer.Refused x) × (s.answer ≡ Answer.Refused x) × (e ≡ Answer.Refused x)
+      → (checked_of way f).answer ≡ Err x → Checks way f rows c list → Reads way f table r left → Alters way f rows k a s kept held → Explains way f k e
+      → (c.answer ≡ Err x) × (r.answer ≡ Err x) × (s.answer ≡ Err x) × (e ≡ Err x)
   file_refused f held left kept rows list table k a c r s e x h p q u w =
       (ap (λ (m : Checked). m.answer) (p.0 ∙ (check_own way f rows x h).0) ∙ h, rw (q.0, h), rw (u.0, h), rw (w, h))
 
   -- After a refusal the lent file and table hold exactly the bytes they held before.
-  pub read_refused : (f held left : List ℕ) (r : Made) (x : Refusal) → Reads way f held r left → r.answer ≡ Answer.Refused x → left ≡ held
+  pub read_refused : (f held left : List ℕ) (r : Made) (x : Refusal) → Reads way f held r left → r.answer ≡ Err x → left ≡ held
   read_refused f held left r x p e = p.1 ∙ (read_leaves way f held x (rw (← p.0) e)).0
 
-  pub write_refused : (t held left : List ℕ) (r : Made) (x : Refusal) → Writes way t held r left → r.answer ≡ Answer.Refused x → left ≡ held
+  pub write_refused : (t held left : List ℕ) (r : Made) (x : Refusal) → Writes way t held r left → r.answer ≡ Err x → left ≡ held
   write_refused t held left r x p e = p.1 ∙ (write_leaves way t held x (rw (← p.0) e)).0
 
-  pub check_refused : (f held left : List ℕ) (r : Checked) (x : Refusal) → Checks way f held r left → r.answer ≡ Answer.Refused x → left ≡ held
+  pub check_refused : (f held left : List ℕ) (r : Checked) (x : Refusal) → Checks way f held r left → r.answer ≡ Err x → left ≡ held
   check_refused f held left r x p e = p.1 ∙ (check_leaves way f held x (rw (← p.0) e)).1
 
-  pub alteration_refused : (f held left rows : List ℕ) (k a : ℕ) (r : Altered) (x : Refusal) → Alters way f held k a r left rows → r.answer ≡ Answer.Refused x
+  pub alteration_refused : (f held left rows : List ℕ) (k a : ℕ) (r : Altered) (x : Refusal) → Alters way f held k a r left rows → r.answer ≡ Err x
       → (left ≡ f) × (rows ≡ held) × (r.difference ≡ pos 0)
   alteration_refused f held left rows k a r x p e =
       let o = listed_refused way f held k a x (rw (← p.0) e) in
@@ -146,15 +147,15 @@ module _ (way : Way) where
 
   -- it is the file that a view makes which keeps the rules; there is one such view, and it is what the file says. (Checking asks for room in the
   -- lent list besides: `exactly_checked` in Money.)
-  pub exactly_accepted : (f : List ℕ) → ((checked_of way f).answer ≡ Answer.Granted) ↔ ((v : View) × FileOf way f v)
+  pub exactly_accepted : (f : List ℕ) → ((checked_of way f).answer ≡ Ok tt) ↔ ((v : View) × FileOf way f v)
   exactly_accepted f = accepted_exactly way f
 
   pub one_view : (f : List ℕ) (v : View) → FileOf way f v → v ≡ view_of way f
   one_view f = only_view way f
 
   module _ (f held left : List ℕ) (c : Checked) (p : Checks way f held c left) where
-    module _ (g : c.answer ≡ Answer.Granted) where
-      accepted : (checked_of way f).answer ≡ Answer.Granted
+    module _ (g : c.answer ≡ Ok tt) where
+      accepted : (checked_of way f).answer ≡ Ok tt
       accepted = ((check_exactly way f held).0 (rw (← p.0) g)).0
 
       -- its records are those of that view, one for one and in order, the controls among them
@@ -169,10 +170,10 @@ module _ (way : Way) where
 
   -- Reading an accepted file into enough room gives its pay table;
   module _ (f held left : List ℕ) (r : Made) (p : Reads way f held r left) where
-    pub exactly_read : (r.answer ≡ Answer.Granted) ↔ (((checked_of way f).answer ≡ Answer.Granted) × (length (table_of way f) ≤ length held))
+    pub exactly_read : (r.answer ≡ Ok tt) ↔ (((checked_of way f).answer ≡ Ok tt) × (length (table_of way f) ≤ length held))
     exactly_read = rw p.0 (read_exactly way f held)
 
-    pub read_gives : r.answer ≡ Answer.Granted → (r.length ≡ length (table_of way f)) × (left ≡ table_of way f ++ drop (length (table_of way f)) held)
+    pub read_gives : r.answer ≡ Ok tt → (r.length ≡ length (table_of way f)) × (left ≡ table_of way f ++ drop (length (table_of way f)) held)
     read_gives g =
         let h = (read_exactly way f held).0 (rw (← p.0) g) in
         let o = read_done way f held h.0 h.1 in
@@ -180,32 +181,32 @@ module _ (way : Way) where
 
   -- a table is written exactly if the file formed from it would be accepted and there is room. (Bytes of another shape are no table.)
   module _ (t held left : List ℕ) (r : Made) (p : Writes way t held r left) where
-    pub exactly_written : (r.answer ≡ Answer.Granted) ↔ ((shaped t ≡ true) × ((checked_of way (formed way t)).answer ≡ Answer.Granted) × (length (formed way t) ≤ length held))
+    pub exactly_written : (r.answer ≡ Ok tt) ↔ ((shaped t ≡ true) × ((checked_of way (formed way t)).answer ≡ Ok tt) × (length (formed way t) ≤ length held))
     exactly_written = rw p.0 (write_exactly way t held)
 
-    pub write_gives : r.answer ≡ Answer.Granted → (r.length ≡ length (formed way t)) × (left ≡ formed way t ++ drop (length (formed way t)) held)
+    pub write_gives : r.answer ≡ Ok tt → (r.length ≡ length (formed way t)) × (left ≡ formed way t ++ drop (length (formed way t)) held)
     write_gives g =
         let h = (write_exactly way t held).0 (rw (← p.0) g) in
         let o = write_done way t held h.0 h.1 h.2 in
         (ap (λ (m : Made). m.length) (p.0 ∙ ap (λ x. x.gives) o), p.1 ∙ ap (λ x. x.leaves) o)
 
   -- Reading undoes writing and writing undoes reading;
-  pub writing_undoes_reading : (f held left room kept : List ℕ) (r s : Made) → Reads way f held r left → r.answer ≡ Answer.Granted
+  pub writing_undoes_reading : (f held left room kept : List ℕ) (r s : Made) → Reads way f held r left → r.answer ≡ Ok tt
       → Writes way (take r.length left) room s kept → length f ≤ length room
-      → (s.answer ≡ Answer.Granted) × (s.length ≡ length f) × (take s.length kept ≡ f)
+      → (s.answer ≡ Ok tt) × (s.length ≡ length f) × (take s.length kept ≡ f)
   writing_undoes_reading f held left room kept r s p g q l =
       let o = read_write way f held room (rw (← p.0) g) l in
       done s kept f room (q.0 ∙ rw (p.0, p.1) (ap (λ x. x.gives) o)) (q.1 ∙ rw (p.0, p.1) (ap (λ x. x.leaves) o))
 
-  pub reading_undoes_writing : (t held left room kept : List ℕ) (r s : Made) → Writes way t held r left → r.answer ≡ Answer.Granted
+  pub reading_undoes_writing : (t held left room kept : List ℕ) (r s : Made) → Writes way t held r left → r.answer ≡ Ok tt
       → Reads way (take r.length left) room s kept → length t ≤ length room
-      → (s.answer ≡ Answer.Granted) × (s.length ≡ length t) × (take s.length kept ≡ t)
+      → (s.answer ≡ Ok tt) × (s.length ≡ length t) × (take s.length kept ≡ t)
   reading_undoes_writing t held left room kept r s p g q l =
       let o = write_read way t held room (rw (← p.0) g) l in
       done s kept t room (q.0 ∙ rw (p.0, p.1) (ap (λ x. x.gives) o)) (q.1 ∙ rw (p.0, p.1) (ap (λ x. x.leaves) o))
 
   -- the table's debits and credits are the file's two totals, to the cent.
-  pub table_totals : (f held left rows list : List ℕ) (c : Checked) (r : Made) → Checks way f rows c list → c.answer ≡ Answer.Granted → Reads way f held r left → r.answer ≡ Answer.Granted
+  pub table_totals : (f held left rows list : List ℕ) (c : Checked) (r : Made) → Checks way f rows c list → c.answer ≡ Ok tt → Reads way f held r left → r.answer ≡ Ok tt
       → let es = entries_of (view_of_table (take r.length left)) in
       (sum_over debit_of es ≡ c.debit) × (sum_over credit_of es ≡ c.credit)
       × (part file_control 6 (file_control_record (view_of way f)) ≡ render 12 c.debit) × (part file_control 7 (file_control_record (view_of way f)) ≡ render 12 c.credit)
@@ -224,15 +225,15 @@ module _ (way : Way) where
   module _ (f held left rows : List ℕ) (k a : ℕ) (r : Altered) (p : Alters way f held k a r left rows) where
     -- granted exactly if the entry exists, the amount fits ten digits and the file written afresh from the altered table would be accepted, and
     -- the first rows lent are the list of the file before the alteration.
-    pub exactly_altered : (r.answer ≡ Answer.Granted) ↔ (Alterable way f k a × (take (length (rows_of (view_of way f))) held ≡ rows_of (view_of way f)))
+    pub exactly_altered : (r.answer ≡ Ok tt) ↔ (Alterable way f k a × (take (length (rows_of (view_of way f))) held ≡ rows_of (view_of way f)))
     exactly_altered =
         let own = begins_exactly (rows_of (view_of way f)) held in (
           λ e. let h = (listed_exactly way f held k a).0 (rw (← p.0) e) in ((alter_exactly way f k a).0 h.0, own.0 h.1),
           λ h. rw p.0 ((listed_exactly way f held k a).1 ((alter_exactly way f k a).1 h.0, own.1 h.1)),
         )
 
-    module _ (g : r.answer ≡ Answer.Granted) where
-      granted : (alter_of way f k a).gives.answer ≡ Answer.Granted
+    module _ (g : r.answer ≡ Ok tt) where
+      granted : (alter_of way f k a).gives.answer ≡ Ok tt
       granted = ((listed_exactly way f held k a).0 (rw (← p.0) g)).0
 
       gave : (r ≡ (alter_of way f k a).gives) × (left ≡ (alter_of way f k a).leaves)
@@ -245,9 +246,9 @@ module _ (way : Way) where
       alter_afresh = gave.1 ∙ alter_leaves way f k a granted
 
       pub alter_as_written : (lent kept : List ℕ) (s : Made) → Writes way (altered_table (table_of way f) k a) lent s kept → length f ≤ length lent
-          → (s.answer ≡ Answer.Granted) × (s.length ≡ length left) × (take s.length kept ≡ left)
+          → (s.answer ≡ Ok tt) × (s.length ≡ length left) × (take s.length kept ≡ left)
       alter_as_written lent kept s q l =
-          let o : write_of way (altered_table (table_of way f) k a) lent ≡ made Answer.Granted (alter_of way f k a).leaves lent =
+          let o : write_of way (altered_table (table_of way f) k a) lent ≡ made (Ok tt) (alter_of way f k a).leaves lent =
           ap (λ t. write_of way t lent) (sym (alter_table way f k a granted)) ∙ write_file way (alter_of way f k a).leaves lent (alter_accepted way f k a granted) (rw (alter_length way f k a granted) l) in
           rw gave.1 (done s kept (alter_of way f k a).leaves lent (q.0 ∙ ap (λ x. x.gives) o) (q.1 ∙ ap (λ x. x.leaves) o))
 
@@ -263,8 +264,8 @@ module _ (way : Way) where
       difference = rw gave.0 (alter_difference way f k a granted)
 
   -- altering to the amount that stands there, with the file's list, is granted, gives 0, and changes no byte
-  pub same_amount : (f held left rows : List ℕ) (k : ℕ) (r : Altered) → (checked_of way f).answer ≡ Answer.Granted → true_list way f held ≡ true → exists (view_of way f) k ≡ true
-      → Alters way f held k (amount_of (entry_at (view_of way f) k)) r left rows → (r.answer ≡ Answer.Granted) × (r.difference ≡ pos 0) × (left ≡ f)
+  pub same_amount : (f held left rows : List ℕ) (k : ℕ) (r : Altered) → (checked_of way f).answer ≡ Ok tt → true_list way f held ≡ true → exists (view_of way f) k ≡ true
+      → Alters way f held k (amount_of (entry_at (view_of way f) k)) r left rows → (r.answer ≡ Ok tt) × (r.difference ≡ pos 0) × (left ≡ f)
   same_amount f held left rows k r g t x p =
       let o = alter_same way f k g x in
       let asked = as_asked way f held k (amount_of (entry_at (view_of way f) k)) g t in
@@ -273,8 +274,8 @@ module _ (way : Way) where
 
   -- ---- An entry's addendum is handed out: it is the addendum that the file says of that entry, or empty where it has none or the question is refused.
 
-  pub addendum_handed : (f bytes : List ℕ) (k : ℕ) (e : Answer) → HandsOut way f k bytes → Explains way f k e → e ≡ Answer.Granted → bytes ≡ joined (entry_at (view_of way f) k).addenda
+  pub addendum_handed : (f bytes : List ℕ) (k : ℕ) (e : Answer) → HandsOut way f k bytes → Explains way f k e → e ≡ Ok tt → bytes ≡ joined (entry_at (view_of way f) k).addenda
   addendum_handed f bytes k e p q g = let h = sym q ∙ g in p ∙ handed way f k (granted_there way f k h) h
 
-  pub addendum_refused : (f bytes : List ℕ) (k : ℕ) (e : Answer) (x : Refusal) → HandsOut way f k bytes → Explains way f k e → e ≡ Answer.Refused x → bytes ≡ []
+  pub addendum_refused : (f bytes : List ℕ) (k : ℕ) (e : Answer) (x : Refusal) → HandsOut way f k bytes → Explains way f k e → e ≡ Err x → bytes ≡ []
   addendum_refused f bytes k e x p q g = p ∙ ap (λ o. take o.size (drop o.from f)) (part_refused way f k x (sym q ∙ g))

@@ -1,5 +1,6 @@
 -- What was accepted before request 7 has no entry in the rows of its four codes.
 -- Assumes nothing.
+use Rattle.std.specs.Prelude.{Ok, Err}
 use Prim.Native.Nat.{ℕ, ◌+◌, ◌*◌, ◌<◌}
 use native.Mathlib.Omega.{arith}
 use mathlib.Core.Path.{◌≡◌, refl, sym, ap, ◌∙◌, subst}
@@ -8,8 +9,7 @@ use mathlib.Core.List.{List, [], ◌∷◌, map}
 use lib.ListN.{length, get_or, set, get_or-replicate}
 use lib.Seq.{get_or-set_other}
 use Rattle.text.specs.Decimal.{pick}
-use Rattle.layout.specs.declared.Answer.{Answer}
-use Rattle.layout.specs.declared.Checked.{Checked}
+use Rattle.layout.specs.Answers.{Checked}
 use Rattle.layout.specs.declared.Fault.{Fault}
 use Rattle.layout.specs.declared.Line.{Line}
 use Rattle.layout.specs.declared.Way.{Way}
@@ -19,7 +19,7 @@ use Rattle.check_across.specs.Across.{entry_code, entry_amount}
 use Rattle.check_order.specs.Order.{complete}
 use Rattle.check_sums.specs.declared.State.{State}
 use Rattle.check_sums.specs.Sums.{add_to_row, start, tally}
-use Rattle.check_record.specs.declared.Verdict.{Verdict}
+use Rattle.check_record.specs.Verdict.{Verdict}
 use Rattle.check_record.specs.Record.{Piece, line_of, stepped, closing, refused, accepted, onward, length_fits, raw_records, piece_of, checked_of}
 use Rattle.view.specs.Keeps.{codes}
 use Rattle.view_laws.proofs.Own.{code_back}
@@ -59,7 +59,7 @@ tally_none st Line.Past r a f = f
 tally_none st Line.Other r a f = f
 
 -- a record that passes leads to the state behind it, and each of its fields is right
-passed_on : (st : State) (p : Piece) → (record_by unremitted st p).verdict ≡ Verdict.Passed
+passed_on : (st : State) (p : Piece) → (record_by unremitted st p).verdict ≡ Ok tt
     → ((record_by unremitted st p).state ≡ tally st (line_of st p.columns) p.columns) × RightBy unremitted st.sums st.header p.columns (rows_of (line_of st p.columns))
 passed_on st p e =
     let line = line_of st p.columns in
@@ -69,36 +69,36 @@ passed_on st p e =
       passed_right unremitted (first_field line) (rows_of line) st.sums st.header p.columns (closed_by_lem p.closed v closed),
     )
   where
-    closed_by_lem : (b : Bool) (v : Verdict) → closing b v ≡ Verdict.Passed → v ≡ Verdict.Passed
+    closed_by_lem : (b : Bool) (v : Verdict) → closing b v ≡ Ok tt → v ≡ Ok tt
     closed_by_lem true v e = e
-    closed_by_lem false Verdict.Passed e = refl
-    closed_by_lem false (Verdict.Failed fault k) e = e
+    closed_by_lem false (Ok _) e = refl
+    closed_by_lem false (Err wrong) e = e
 
-run_none : (st : State) (ps : List Piece) → (run_by unremitted st ps).answer ≡ Answer.Granted → NoRemittance st.bycode → NoRemittance (run_by unremitted st ps).bycode
+run_none : (st : State) (ps : List Piece) → (run_by unremitted st ps).answer ≡ Ok tt → NoRemittance st.bycode → NoRemittance (run_by unremitted st ps).bycode
 unfolding run_by
 run_none st [] e f = go (complete st.place st.sums.records) e
   where
-    go : (b : Bool) → (pick b (accepted st) (refused Fault.Ended (st.sums.records + 1) 0)).answer ≡ Answer.Granted → NoRemittance (pick b (accepted st) (refused Fault.Ended (st.sums.records + 1) 0)).bycode
+    go : (b : Bool) → (pick b (accepted st) (refused Fault.Ended (st.sums.records + 1) 0)).answer ≡ Ok tt → NoRemittance (pick b (accepted st) (refused Fault.Ended (st.sums.records + 1) 0)).bycode
     go true a = f
     go false a = refused_never Fault.Ended (st.sums.records + 1) 0 a
 run_none st (p ∷ ps) e f = go (run_none (record_by unremitted st p).state ps) (record_by unremitted st p).verdict refl e
   where
-    go : ((run_by unremitted (record_by unremitted st p).state ps).answer ≡ Answer.Granted → NoRemittance (record_by unremitted st p).state.bycode → NoRemittance (run_by unremitted (record_by unremitted st p).state ps).bycode)
+    go : ((run_by unremitted (record_by unremitted st p).state ps).answer ≡ Ok tt → NoRemittance (record_by unremitted st p).state.bycode → NoRemittance (run_by unremitted (record_by unremitted st p).state ps).bycode)
         → (v : Verdict) → (record_by unremitted st p).verdict ≡ v
-        → (onward v (st.sums.records + 1) (run_by unremitted (record_by unremitted st p).state ps)).answer ≡ Answer.Granted
+        → (onward v (st.sums.records + 1) (run_by unremitted (record_by unremitted st p).state ps)).answer ≡ Ok tt
         → NoRemittance (onward v (st.sums.records + 1) (run_by unremitted (record_by unremitted st p).state ps)).bycode
-    go later Verdict.Passed g a =
+    go later (Ok _) g a =
         let on = passed_on st p g in
         later a (subst (λ (x : State). NoRemittance x.bycode) (sym on.0) (tally_none st (line_of st p.columns) p.columns on.1 f))
-    go later (Verdict.Failed fault k) g a = refused_never fault (st.sums.records + 1) k a
+    go later (Err wrong) g a = refused_never wrong.fault (st.sums.records + 1) wrong.field a
 
 -- so the rows that were eight are still what they were, and the four between them are 0
-pub remittances_none : (way : Way) (f : List ℕ) → (checked_by unremitted way f).answer ≡ Answer.Granted → NoRemittance (checked_of way f).bycode
+pub remittances_none : (way : Way) (f : List ℕ) → (checked_by unremitted way f).answer ≡ Ok tt → NoRemittance (checked_of way f).bycode
 remittances_none way f e = subst (λ (c : Checked). NoRemittance c.bycode) (sym (remittances_keep way f e)) (go (length_fits way (length f)) e)
   where
     run : Checked
     run = run_by unremitted start (map (piece_of way) (raw_records way f))
 
-    go : (b : Bool) → (pick b run (refused Fault.Length 0 0)).answer ≡ Answer.Granted → NoRemittance (pick b run (refused Fault.Length 0 0)).bycode
+    go : (b : Bool) → (pick b run (refused Fault.Length 0 0)).answer ≡ Ok tt → NoRemittance (pick b run (refused Fault.Length 0 0)).bycode
     go true a = run_none start (map (piece_of way) (raw_records way f)) a λ k l r. (get_or-replicate {A = ℕ} 24 (2 * k) 0 0 (omega arith), get_or-replicate {A = ℕ} 24 (2 * k + 1) 0 0 (omega arith))
     go false a = refused_never Fault.Length 0 0 a

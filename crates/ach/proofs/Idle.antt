@@ -1,5 +1,6 @@
 -- Idle programs that the contracts rule out by name.
 -- Assumes nothing.
+use Rattle.std.specs.Prelude.{Ok}
 use mathlib.Core.Path.{◌≡◌, refl, sym, ap, ◌∙◌}
 use mathlib.Core.Logic.{◌≢◌}
 use mathlib.Core.Bool.{true, false}
@@ -10,16 +11,15 @@ use lib.ListN.{length, get_or, take}
 use Rattle.text.specs.Decimal.{render}
 use Rattle.text.specs.Rows.{joined}
 use Rattle.layout.specs.declared.Fault.{Fault}
-use Rattle.layout.specs.declared.Answer.{Answer}
-use Rattle.layout.specs.declared.Checked.{Checked}
-use Rattle.layout.specs.declared.Made.{Made}
-use Rattle.layout.specs.declared.Altered.{Altered}
+use Rattle.layout.specs.Answers.{Checked}
+use Rattle.layout.specs.Answers.{Made}
+use Rattle.layout.specs.Answers.{Altered}
 use Rattle.check_record.specs.Record.{checked_of}
 use Rattle.view.specs.View.{amount_of, file_of, view_of}
 use Rattle.view.specs.Table.{table_bytes, table_of}
 use Rattle.view.specs.Outcome.{entry_at}
 use Rattle.layout.specs.Paper.{refusal}
-use Rattle.funds.specs.declared.RunsOut.{RunsOut}
+use Rattle.funds.specs.RunsOut.{RunsOut}
 use Rattle.funds.specs.Funds.{rows_of, in_front, begins_with, true_list}
 use Rattle.funds.proofs.Examples.{asks, altered}
 use Rattle.funds.proofs.CheckLaws.{check_done}
@@ -44,7 +44,7 @@ unfolding joined render
 first_differs e = let z : ◌≡◌ {A = ℕ} 49 48 = ap (λ f. get_or f (94 * 2 + 38) 0) e in omega arith
 
 -- the file of two batches: it is accepted, and this is its list
-sent_granted : (checked_of Way.Plain (file_of Way.Plain (two 100 1000))).answer ≡ Answer.Granted
+sent_granted : (checked_of Way.Plain (file_of Way.Plain (two 100 1000))).answer ≡ Ok tt
 sent_granted = ap (λ c. c.answer) across.accepted
 
 sent_list : rows_of (view_of Way.Plain (file_of Way.Plain (two 100 1000))) ≡ 6 ∷ 100 ∷ 10 ∷ 1140 ∷ []
@@ -67,7 +67,7 @@ checked_whole held left r p l =
     as_the_file Way.Plain whole held left r p (omega (arith, l, (own_entries Way.Plain whole g).batches, ap (λ c. c.batches) whole_accepted))
 
 -- one that refuses always, and one that grants always
-pub not_refusing_always : (held left : List ℕ) (r : Checked) → Checks Way.Plain whole held r left → 2 ≤ length held → r.answer ≡ Answer.Granted
+pub not_refusing_always : (held left : List ℕ) (r : Checked) → Checks Way.Plain whole held r left → 2 ≤ length held → r.answer ≡ Ok tt
 not_refusing_always held left r p l = ap (λ c. c.answer) (checked_whole held left r p l ∙ whole_accepted)
 
 pub not_granting_always : (held left : List ℕ) (r : Checked) → Checks Way.Plain [] held r left → r.answer ≡ refusal Fault.Length 0 0
@@ -101,7 +101,7 @@ finds_some_and_none r s p q = (p ∙ asks.exceeds, q ∙ asks.none)
 
 -- a reader of the first batch only
 pub every_batch_read : (held left : List ℕ) (r : Made) → Reads Way.Plain (file_of Way.Plain (two 100 1000)) held r left → 751 ≤ length held
-    → (r.answer ≡ Answer.Granted) × (r.length ≡ 751) × (take 751 left ≡ table_bytes (two 100 1000))
+    → (r.answer ≡ Ok tt) × (r.length ≡ 751) × (take 751 left ≡ table_bytes (two 100 1000))
 every_batch_read held left r p l =
     let t : table_of Way.Plain (file_of Way.Plain (two 100 1000)) ≡ table_bytes (two 100 1000) = ap table_bytes across.read in
     let n : length (table_of Way.Plain (file_of Way.Plain (two 100 1000))) ≡ 751 = ap length t ∙ across.tables.1 in
@@ -110,7 +110,7 @@ every_batch_read held left r p l =
     (d.0, d.1 ∙ n, ap (λ m. take m left) (sym (d.1 ∙ n)) ∙ d.2 ∙ t)
 
 -- an alteration that does nothing
-pub alteration_does_something : (way : Way) (f held left rows : List ℕ) (k a : ℕ) (r : Altered) → Alters way f held k a r left rows → r.answer ≡ Answer.Granted
+pub alteration_does_something : (way : Way) (f held left rows : List ℕ) (k a : ℕ) (r : Altered) → Alters way f held k a r left rows → r.answer ≡ Ok tt
     → a ≢ amount_of (entry_at (view_of way f) k) → left ≢ f
 alteration_does_something way f held left rows k a r p g d e =
     let h = (listed_exactly way f held k a).0 (rw (← p.0) g) in
@@ -119,7 +119,7 @@ alteration_does_something way f held left rows k a r p g d e =
 
 -- one that leaves the list of the file before, and one that alters with any list
 pub list_of_the_altered : (left rows : List ℕ) (r : Altered) → Alters Way.Plain (file_of Way.Plain (two 100 1000)) (6 ∷ 100 ∷ 10 ∷ 1140 ∷ 5 ∷ []) 3 1001 r left rows
-    → (r.answer ≡ Answer.Granted) × (left ≡ file_of Way.Plain (two 100 1001)) × (rows ≡ 6 ∷ 100 ∷ 10 ∷ 1141 ∷ 5 ∷ [])
+    → (r.answer ≡ Ok tt) × (left ≡ file_of Way.Plain (two 100 1001)) × (rows ≡ 6 ∷ 100 ∷ 10 ∷ 1141 ∷ 5 ∷ [])
 list_of_the_altered left rows r p =
     let f = file_of Way.Plain (two 100 1000) in
     let held : List ℕ = 6 ∷ 100 ∷ 10 ∷ 1140 ∷ 5 ∷ [] in
@@ -138,7 +138,7 @@ not_with_another_list left rows r p =
     ap (λ (m : Altered). m.answer) (other_rows Way.Plain (file_of Way.Plain (two 100 1000)) held left rows 9 1001 r p sent_granted (sent_false held refl)).0
 
 -- a taking out that takes nothing: a list that is granted and not empty leaves fewer entries than there were
-pub taking_out_does_something : (way : Way) (f ns held left rows : List ℕ) (n : ℕ) (r : Made) → TakesOut way f (n ∷ ns) held r left rows → r.answer ≡ Answer.Granted
+pub taking_out_does_something : (way : Way) (f ns held left rows : List ℕ) (n : ℕ) (r : Made) → TakesOut way f (n ∷ ns) held r left rows → r.answer ≡ Ok tt
     → (checked_of way (take r.length left)).entries < (checked_of way f).entries
 taking_out_does_something way f ns held left rows n r p g = omega (arith, some_distinct n ns, recall_entries way f (n ∷ ns) held left rows r p g)
 

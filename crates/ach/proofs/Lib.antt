@@ -14,3 +14,4 @@ pub mod LineBack
 pub mod RoundTrip
 pub mod Lists
 pub mod ToldLaws
+pub mod Once

@@ -1,5 +1,6 @@
 -- A line is read back, and so are all lines.
 -- Assumes of each row that its six fields are bytes 0x20 to 0x7E, and its amount digits.
+use Rattle.std.specs.Prelude.{Ok}
 use Prim.Native.Nat.{ℕ, zero, suc, ◌+◌, ◌-◌, ◌≤◌}
 use native.Mathlib.Omega.{arith}
 use mathlib.Core.Path.{◌≡◌, refl, sym, ap, ap₂, ◌∙◌}
@@ -13,9 +14,7 @@ use Rattle.text.specs.Decimal.{every, is_digit, digits}
 use Rattle.text.specs.Rows.{joined, cut}
 use Rattle.text.proofs.DecimalLaws.{both_and, every_append, every_take, every_drop, every_at, every_from, digit_range}
 use Rattle.text.proofs.RowLaws.{joined_cut}
-use Rattle.layout.specs.declared.Answer.{Answer}
 use Rattle.layout.specs.declared.Fault.{Fault}
-use Rattle.check_record.specs.declared.Verdict.{Verdict}
 use Rattle.view.specs.Sized.{All}
 use Rattle.csv_cells.specs.declared.Cell.{Cell}
 use Rattle.csv_cells.specs.Cells.{cell_of, text_of, stop_from, text_from, fields_right, texts_from, last_stop, size_by, six_fields, six_texts, line_size, lines_from, lines_in, filled_to}
@@ -158,7 +157,7 @@ module _ (row : List ℕ) (w : Plain row) where
   ten : length (take 10 (drop 28 row)) ≡ 10
   ten = omega (arith, length-take 10 (drop 28 row), length-drop 28 row, w.long)
 
-  fields_pass : texts_verdict 1 (line_fields (54 ∷ row)) ≡ Verdict.Passed
+  fields_pass : texts_verdict 1 (line_fields (54 ∷ row)) ≡ Ok tt
   unfolding texts_verdict
   fields_pass =
       rw (short 2 row, short 9 (drop 2 row), short 17 (drop 11 row), right_back (take 10 (drop 28 row)) ten w.amount, short 15 (drop 38 row), short 22 (drop 53 row)) refl
@@ -184,7 +183,7 @@ module _ (row : List ℕ) (w : Plain row) where
     length_back = size_back (line_of_row row) rest (last_stop 5 (line_of_row row ++ rest) 0) line_back.stop
 
     -- no fault is found in it
-    pub passes_back : line_verdict (line_of_row row ++ rest) ≡ Verdict.Passed
+    pub passes_back : line_verdict (line_of_row row ++ rest) ≡ Ok tt
     passes_back = ap₂ (λ b ps. try b Fault.Comma 0 (texts_verdict 1 ps)) six_back texts_back ∙ fields_pass
 
     -- its row has the same columns, and behind them those that a line does not hold
@@ -229,7 +228,7 @@ pub lines_back : (rs : List (List ℕ)) → All Plain rs → lines_in (lines_of 
 lines_back rs w = lines_upto rs (length (lines_of rs)) w (omega arith)
 
 -- no line has a fault
-pub lines_granted : (k : ℕ) (rs : List (List ℕ)) → All Plain rs → lines_answer k (tails_of rs) ≡ Answer.Granted
+pub lines_granted : (k : ℕ) (rs : List (List ℕ)) → All Plain rs → lines_answer k (tails_of rs) ≡ Ok tt
 unfolding lines_answer tails_of
 lines_granted k [] w = refl
 lines_granted k (r ∷ rs) w =

@@ -1,5 +1,6 @@
 -- What request 4 asks of client lists, over the contracts of import and export.
 -- Assumes nothing.
+use Rattle.std.specs.Prelude.{Ok, Err}
 use Prim.Native.Nat.{ℕ, ◌≤◌}
 use mathlib.Core.Path.{◌≡◌, refl, sym, ap, ap₂, ◌∙◌, subst}
 use mathlib.Core.Logic.{◌↔◌}
@@ -7,9 +8,8 @@ use mathlib.Core.Bool.{true}
 use mathlib.Core.List.{List, append-nil}
 use lib.ListN.{length, take}
 use borrow.Author.Tests.{le-leb}
-use Rattle.layout.specs.declared.Answer.{Answer}
 use Rattle.layout.specs.declared.Refusal.{Refusal}
-use Rattle.layout.specs.declared.Made.{Made}
+use Rattle.layout.specs.Answers.{Made}
 use Rattle.layout.specs.declared.Fault.{Fault}
 use Rattle.layout.specs.declared.Way.{Way}
 use Rattle.view.specs.View.{entries_of, view_of}
@@ -46,11 +46,11 @@ export_one t held left kept r s p q = (p.0 ∙ sym q.0, p.1 ∙ sym q.1)
 
 -- ---- a refusal touches nothing
 
-pub import_refused : (filerow batchrow lines held left : List ℕ) (r : Made) (x : Refusal) → Imports filerow batchrow lines held r left → r.answer ≡ Answer.Refused x → left ≡ held
+pub import_refused : (filerow batchrow lines held left : List ℕ) (r : Made) (x : Refusal) → Imports filerow batchrow lines held r left → r.answer ≡ Err x → left ≡ held
 import_refused filerow batchrow lines held left r x p e =
     p.1 ∙ (made_refused (and_then (import_answer filerow batchrow lines) (room (import_table filerow batchrow lines) held)) (import_table filerow batchrow lines) held x (sym (ap (λ m. m.answer) p.0) ∙ e)).0
 
-pub export_refused : (t held left : List ℕ) (r : Made) (x : Refusal) → Exports t held r left → r.answer ≡ Answer.Refused x → left ≡ held
+pub export_refused : (t held left : List ℕ) (r : Made) (x : Refusal) → Exports t held r left → r.answer ≡ Err x → left ≡ held
 export_refused t held left r x p e =
     p.1 ∙ (made_refused (and_then (writable t) (room (exported t) held)) (exported t) held x (sym (ap (λ m. m.answer) p.0) ∙ e)).0
 
@@ -58,28 +58,28 @@ export_refused t held left r x p e =
 
 module _ (filerow batchrow lines : List ℕ) where
   -- where no line is faulty and the rows fit, importing judges as writing does
-  pub judged_as_written : lines_answer 1 (lines_in lines) ≡ Answer.Granted → rows_fit filerow batchrow lines ≡ true → import_answer filerow batchrow lines ≡ writable (import_table filerow batchrow lines)
+  pub judged_as_written : lines_answer 1 (lines_in lines) ≡ Ok tt → rows_fit filerow batchrow lines ≡ true → import_answer filerow batchrow lines ≡ writable (import_table filerow batchrow lines)
   judged_as_written g e =
       let fit = rows_fit_lem filerow batchrow lines e in
       rw (g, e, table_right filerow batchrow lines fit.file fit.batch g fit.few) refl
 
-  pub exactly_imported : (held : List ℕ) → ((import_of filerow batchrow lines held).gives.answer ≡ Answer.Granted)
-      ↔ ((lines_answer 1 (lines_in lines) ≡ Answer.Granted) × (rows_fit filerow batchrow lines ≡ true) × (writable (import_table filerow batchrow lines) ≡ Answer.Granted) × (length (import_table filerow batchrow lines) ≤ length held))
+  pub exactly_imported : (held : List ℕ) → ((import_of filerow batchrow lines held).gives.answer ≡ Ok tt)
+      ↔ ((lines_answer 1 (lines_in lines) ≡ Ok tt) × (rows_fit filerow batchrow lines ≡ true) × (writable (import_table filerow batchrow lines) ≡ Ok tt) × (length (import_table filerow batchrow lines) ≤ length held))
   exactly_imported held = (
     λ e.
         let a = then_granted (import_answer filerow batchrow lines) (room (import_table filerow batchrow lines) held) (sym (answered _ (import_table filerow batchrow lines) held) ∙ e) in
         let p = import_granted filerow batchrow lines a.0 in
         (p.0, p.1, sym (judged_as_written p.0 p.1) ∙ a.0, room_granted (import_table filerow batchrow lines) held a.1),
     λ h.
-        let all : and_then (import_answer filerow batchrow lines) (room (import_table filerow batchrow lines) held) ≡ Answer.Granted =
+        let all : and_then (import_answer filerow batchrow lines) (room (import_table filerow batchrow lines) held) ≡ Ok tt =
         ap (λ a. and_then a (room (import_table filerow batchrow lines) held)) (judged_as_written h.0 h.1 ∙ h.2)
-        ∙ ap (λ b. demand b (refusal Fault.Room 0 0) Answer.Granted) (le-leb (length (import_table filerow batchrow lines)) (length held) h.3) in
+        ∙ ap (λ b. demand b (refusal Fault.Room 0 0) (Ok tt)) (le-leb (length (import_table filerow batchrow lines)) (length held) h.3) in
         answered _ (import_table filerow batchrow lines) held ∙ all,
   )
 
   -- ---- "an import's table, written, is a file whose entries are the lines in order; every line is one entry"
 
-  module _ (g : import_answer filerow batchrow lines ≡ Answer.Granted) where
+  module _ (g : import_answer filerow batchrow lines ≡ Ok tt) where
     pub file_of_lines : (way : Way) → view_of way (formed way (import_table filerow batchrow lines)) ≡ import_view filerow batchrow lines
     file_of_lines way =
         let p = import_granted filerow batchrow lines g in
@@ -96,8 +96,8 @@ module _ (filerow batchrow lines : List ℕ) where
 -- ---- "importing it, where granted, gives the six fields back"
 
 -- the lines that an export made of a table, imported under any rows: as many entries, and the six fields of each are those of the table
-pub six_fields_back : (filerow batchrow t held left memory kept : List ℕ) (r s : Made) → Exports t held r left → r.answer ≡ Answer.Granted
-    → Imports filerow batchrow (take r.length left) memory s kept → s.answer ≡ Answer.Granted → SameFields (take s.length kept) t
+pub six_fields_back : (filerow batchrow t held left memory kept : List ℕ) (r s : Made) → Exports t held r left → r.answer ≡ Ok tt
+    → Imports filerow batchrow (take r.length left) memory s kept → s.answer ≡ Ok tt → SameFields (take s.length kept) t
 six_fields_back filerow batchrow t held left memory kept r s p e q h =
     let made-lines = take (export_of t held).gives.length (export_of t held).leaves in
     let lines_are : take r.length left ≡ made-lines = ap₂ (λ (m : Made) (l : List ℕ). take m.length l) p.0 p.1 in

@@ -1,5 +1,6 @@
 -- What request 9 asks of mending, over its contract: whatever outcome it permits has these properties.
 -- Assumes nothing.
+use Rattle.std.specs.Prelude.{Ok, Err}
 use mathlib.Core.Path.{◌≡◌, refl, sym, ap, ◌∙◌}
 use mathlib.Core.Logic.{◌↔◌}
 use mathlib.Core.Bool.{true, false, ◌&&◌}
@@ -9,14 +10,13 @@ use lib.Dec.{leb}
 use lib.ListN.{length, take, drop, replicate}
 use lib.Seq.{take_at}
 use Rattle.layout.specs.declared.Fault.{Fault}
-use Rattle.layout.specs.declared.Answer.{Answer}
 use Rattle.layout.specs.declared.Refusal.{Refusal}
 use Rattle.layout.specs.declared.Way.{Way}
 use Rattle.layout.specs.Paper.{refusal}
 use Rattle.check_record.specs.Record.{length_fits, raw_records, checked_of}
 use Rattle.view.specs.View.{view_of}
 use Rattle.view.specs.Table.{formed, table_of}
-use Rattle.mend.specs.declared.Mended.{Mended}
+use Rattle.mend.specs.Mended.{Mended}
 use Rattle.mend.specs.Mend.{Mending, mended_file, changes_of, behind_nine, mend_answer, mend_of}
 use Rattle.mend.proofs.Examples.{worked, sent, total_wrong, total_mended, damaged}
 use Rattle.mend.specs.Listed.{ListOf}
@@ -47,25 +47,25 @@ module _ (way : Way) where
     pub mend_of_no_records : length_fits way (length f) ≡ false → r.answer ≡ refusal Fault.Length 0 0
     mend_of_no_records e = answer_is ∙ refused_length way f (length held) (length list) e
 
-    pub mend_refused_still : (x : Refusal) → length_fits way (length f) ≡ true → (checked_of way (mended_file way f)).answer ≡ Answer.Refused x → r.answer ≡ Answer.Refused x
+    pub mend_refused_still : (x : Refusal) → length_fits way (length f) ≡ true → (checked_of way (mended_file way f)).answer ≡ Err x → r.answer ≡ Err x
     mend_refused_still x e a = answer_is ∙ refused_mended way f (length held) (length list) x e a
 
-    pub mend_not_only_nines : (x : Refusal) → length_fits way (length f) ≡ true → (checked_of way (mended_file way f)).answer ≡ Answer.Granted
-        → behind_nine (raw_records way f) ≡ Answer.Refused x → r.answer ≡ Answer.Refused x
+    pub mend_not_only_nines : (x : Refusal) → length_fits way (length f) ≡ true → (checked_of way (mended_file way f)).answer ≡ Ok tt
+        → behind_nine (raw_records way f) ≡ Err x → r.answer ≡ Err x
     mend_not_only_nines x e a b = answer_is ∙ refused_behind way f (length held) (length list) x e a b
 
-    pub mend_no_room : length_fits way (length f) ≡ true → (checked_of way (mended_file way f)).answer ≡ Answer.Granted → behind_nine (raw_records way f) ≡ Answer.Granted
+    pub mend_no_room : length_fits way (length f) ≡ true → (checked_of way (mended_file way f)).answer ≡ Ok tt → behind_nine (raw_records way f) ≡ Ok tt
         → (leb (length (mended_file way f)) (length held) && leb (length (changes_of way f)) (length list)) ≡ false → r.answer ≡ refusal Fault.Room 0 0
     mend_no_room e a b c = answer_is ∙ refused_room way f (length held) (length list) e a b c
 
     -- "Mending is granted exactly if the mended file is accepted, only nines stood behind the 9 and there is room"
-    pub exactly_mended : (r.answer ≡ Answer.Granted) ↔ Grants way f (length held) (length list)
+    pub exactly_mended : (r.answer ≡ Ok tt) ↔ Grants way f (length held) (length list)
     exactly_mended =
         let e = exactly_granted way f (length held) (length list) in
         (λ g. e.0 (sym answer_is ∙ g), λ g. answer_is ∙ e.1 g)
 
     -- a refusal gives no length, and leaves both buffers as they were
-    pub mend_refused_untouched : (x : Refusal) → r.answer ≡ Answer.Refused x → (r.length ≡ 0) × (r.listed ≡ 0) × (left ≡ held) × (changes ≡ list)
+    pub mend_refused_untouched : (x : Refusal) → r.answer ≡ Err x → (r.length ≡ 0) × (r.listed ≡ 0) × (left ≡ held) × (changes ≡ list)
     mend_refused_untouched x e =
         let o = mend_refused way f held list x (sym answer_is ∙ e) in (
           ap (λ (m : Mended). m.length) p.0 ∙ ap (λ (m : Mending). m.gives.length) o,
@@ -76,13 +76,13 @@ module _ (way : Way) where
 
     -- ---- granted
 
-    module _ (g : r.answer ≡ Answer.Granted) where
-      asked : mend_answer way f (length held) (length list) ≡ Answer.Granted
+    module _ (g : r.answer ≡ Ok tt) where
+      asked : mend_answer way f (length held) (length list) ≡ Ok tt
       asked = sym answer_is ∙ g
 
       outcome : mend_of way f held list
           ≡ record {
-            gives = record { answer = Answer.Granted; length = length (mended_file way f); listed = length (changes_of way f) };
+            gives = record { answer = Ok tt; length = length (mended_file way f); listed = length (changes_of way f) };
             leaves = mended_file way f ++ drop (length (mended_file way f)) held;
             changes = changes_of way f ++ drop (length (changes_of way f)) list;
           }
@@ -102,7 +102,7 @@ module _ (way : Way) where
           ∙ take_at (mended_file way f) (drop (length (mended_file way f)) held) (length (mended_file way f)) refl
 
       -- the mended file is accepted
-      pub mended_is_accepted : (checked_of way (take r.length left)).answer ≡ Answer.Granted
+      pub mended_is_accepted : (checked_of way (take r.length left)).answer ≡ Ok tt
       mended_is_accepted = ap (λ x. (checked_of way x).answer) front ∙ ((exactly_granted way f (length held) (length list)).0 asked).accepted
 
       -- it says what the lent file's other records say: nobody's entry, addendum or header changes
@@ -119,8 +119,8 @@ module _ (way : Way) where
 
     -- ---- an accepted file is given back as it is, and "no change is 21 zeros"
 
-    module _ (g : (checked_of way f).answer ≡ Answer.Granted) (room : length f ≤ length held) (zeros : 21 ≤ length list) where
-      pub accepted_is_mended : r.answer ≡ Answer.Granted
+    module _ (g : (checked_of way f).answer ≡ Ok tt) (room : length f ≤ length held) (zeros : 21 ≤ length list) where
+      pub accepted_is_mended : r.answer ≡ Ok tt
       accepted_is_mended = answer_is ∙ accepted_granted way f (length held) (length list) g room zeros
 
       pub accepted_comes_back : (take r.length left ≡ f) × (changes ≡ replicate 21 48 ++ drop 21 list)
@@ -133,7 +133,7 @@ module _ (way : Way) where
 
 -- one that mends nothing, or reports nothing: a wrong total of a literal file is put right, and the list has its old and its new text
 pub a_total_is_mended : (left changes : List ℕ) (r : Mended) → Mends Way.Plain (total_wrong Way.Plain) (replicate 1881 42) (replicate 300 46) r left changes
-    → (r.answer ≡ Answer.Granted) × (left ≡ sent Way.Plain ++ replicate 1 42) × (take r.listed changes ≡ total_mended)
+    → (r.answer ≡ Ok tt) × (left ≡ sent Way.Plain ++ replicate 1 42) × (take r.listed changes ≡ total_mended)
 a_total_is_mended left changes r p =
     let o = worked.total in
     let listed : r.listed ≡ length total_mended = ap (λ (m : Mended). m.listed) p.0 ∙ ap (λ (m : Mending). m.gives.listed) o in (

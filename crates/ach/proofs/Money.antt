@@ -1,5 +1,6 @@
 -- What request 8 asks of checking, of altering and of the question, over their contracts: whatever outcome they permit has these properties.
 -- Assumes nothing.
+use Rattle.std.specs.Prelude.{Ok, Err}
 use mathlib.Core.Path.{◌≡◌, refl, sym, ap, ap₂, ◌∙◌}
 use mathlib.Core.Logic.{◌↔◌}
 use mathlib.Core.Bool.{Bool, true, false}
@@ -10,10 +11,10 @@ use lib.ListN.{length, get_or, take, drop}
 use lib.Seq.{take-append_seam, drop-append_seam}
 use lib.IntN.{pos}
 use Rattle.layout.specs.declared.Fault.{Fault}
-use Rattle.layout.specs.declared.Answer.{Answer}
+use Rattle.layout.specs.Answers.{Answer}
 use Rattle.layout.specs.declared.Refusal.{Refusal}
-use Rattle.layout.specs.declared.Checked.{Checked}
-use Rattle.layout.specs.declared.Altered.{Altered}
+use Rattle.layout.specs.Answers.{Checked}
+use Rattle.layout.specs.Answers.{Altered}
 use Rattle.layout.specs.declared.Way.{Way}
 use Rattle.check_record.specs.Record.{refused, checked_of}
 use Rattle.view.specs.View.{View, view_of}
@@ -22,7 +23,7 @@ use Rattle.layout.specs.Paper.{refusal}
 use Rattle.view_laws.proofs.Alter.{alter_exactly}
 use Rattle.view_laws.proofs.Bridge.{FileOf, accepted_exactly}
 use Rattle.view_laws.proofs.Own.{own_entries}
-use Rattle.funds.specs.declared.RunsOut.{RunsOut}
+use Rattle.funds.specs.RunsOut.{RunsOut}
 use Rattle.funds.specs.Funds.{rows_of, in_front, true_list, runs_out}
 use Rattle.funds.specs.Summed.{summed, FirstOver, NoneOver}
 use Rattle.funds.proofs.Asked.{found_first, found_none, lone_number, own_list}
@@ -36,24 +37,24 @@ module _ (way : Way) where
 
   module _ (f held left : List ℕ) (c : Checked) (p : Checks way f held c left) where
     -- "checking is granted exactly if the file is accepted as demand 2 says and the list has room"
-    pub exactly_checked : (c.answer ≡ Answer.Granted) ↔ (((checked_of way f).answer ≡ Answer.Granted) × (2 * length (view_of way f).batches ≤ length held))
+    pub exactly_checked : (c.answer ≡ Ok tt) ↔ (((checked_of way f).answer ≡ Ok tt) × (2 * length (view_of way f).batches ≤ length held))
     exactly_checked = rw p.0 (check_exactly way f held)
 
-    pub exactly_kept : (c.answer ≡ Answer.Granted) ↔ (((v : View) × FileOf way f v) × (2 * length (view_of way f).batches ≤ length held))
+    pub exactly_kept : (c.answer ≡ Ok tt) ↔ (((v : View) × FileOf way f v) × (2 * length (view_of way f).batches ≤ length held))
     exactly_kept = (
       λ e. let h = exactly_checked.0 e in ((accepted_exactly way f).0 h.0, h.1),
       λ h. exactly_checked.1 ((accepted_exactly way f).1 h.0, h.1),
     )
 
     -- "23, last": whatever the file is refused with comes first, and no acceptance is given with it
-    pub checked_own : (x : Refusal) → (checked_of way f).answer ≡ Answer.Refused x → (c ≡ checked_of way f) × (left ≡ held)
+    pub checked_own : (x : Refusal) → (checked_of way f).answer ≡ Err x → (c ≡ checked_of way f) × (left ≡ held)
     checked_own x e = let o = check_own way f held x e in (p.0 ∙ o.0, p.1 ∙ o.1)
 
-    pub checked_short : (checked_of way f).answer ≡ Answer.Granted → length held < 2 * length (view_of way f).batches → (c ≡ refused Fault.Room 0 0) × (left ≡ held)
+    pub checked_short : (checked_of way f).answer ≡ Ok tt → length held < 2 * length (view_of way f).batches → (c ≡ refused Fault.Room 0 0) × (left ≡ held)
     checked_short g h = let o = check_short way f held g h in (p.0 ∙ o.0, p.1 ∙ o.1)
 
     -- "On a refusal every number is 0", and the list stays
-    pub checked_refused : (x : Refusal) → c.answer ≡ Answer.Refused x → (c ≡ refused x.fault x.record.0 x.field) × (left ≡ held)
+    pub checked_refused : (x : Refusal) → c.answer ≡ Err x → (c ≡ refused x.fault x.record.0 x.field) × (left ≡ held)
     checked_refused x e = let o = check_leaves way f held x (rw (← p.0) e) in (p.0 ∙ o.0, p.1 ∙ o.1)
 
     -- "Whether a file is accepted doesn't hang on the list": with room the answer is the file's alone
@@ -61,11 +62,11 @@ module _ (way : Way) where
     as_the_file h = go (checked_of way f).answer refl
       where
         go : (a : Answer) → (checked_of way f).answer ≡ a → c ≡ checked_of way f
-        go Answer.Granted e = p.0 ∙ (check_done way f held e h).0
-        go (Answer.Refused x) e = p.0 ∙ (check_own way f held x e).0
+        go (Ok _) e = p.0 ∙ (check_done way f held e h).0
+        go (Err x) e = p.0 ∙ (check_own way f held x e).0
 
     -- "one row a batch .. which checking gives along with acceptance"; what stands behind stays
-    module _ (g : c.answer ≡ Answer.Granted) where
+    module _ (g : c.answer ≡ Ok tt) where
       pub checked_rows : left ≡ in_front (rows_of (view_of way f)) held
       checked_rows = let h = exactly_checked.0 g in p.1 ∙ (check_done way f held h.0 h.1).1
 
@@ -116,16 +117,16 @@ module _ (way : Way) where
 
   module _ (f held left rows : List ℕ) (k a : ℕ) (r : Altered) (p : Alters way f held k a r left rows) where
     -- "34, before 25, where the first rows lent with an alteration aren't that file's list"
-    pub other_rows : (checked_of way f).answer ≡ Answer.Granted → true_list way f held ≡ false
+    pub other_rows : (checked_of way f).answer ≡ Ok tt → true_list way f held ≡ false
         → (r ≡ record { answer = refusal Fault.Rows 0 0; difference = pos 0 }) × (left ≡ f) × (rows ≡ held)
     other_rows g t = let o = other_list way f held k a g t in (p.0 ∙ sym o.0, p.1 ∙ sym o.1, p.2 ∙ sym o.2)
 
     -- with the file's list it gives and leaves what it did without one
-    pub as_without_list : (checked_of way f).answer ≡ Answer.Granted → true_list way f held ≡ true → (r ≡ (alter_of way f k a).gives) × (left ≡ (alter_of way f k a).leaves)
+    pub as_without_list : (checked_of way f).answer ≡ Ok tt → true_list way f held ≡ true → (r ≡ (alter_of way f k a).gives) × (left ≡ (alter_of way f k a).leaves)
     as_without_list g t = let o = as_asked way f held k a g t in (p.0 ∙ sym o.0, p.1 ∙ sym o.1)
 
     -- "granted, they are that of the file after it"
-    pub altered_rows : r.answer ≡ Answer.Granted → rows ≡ in_front (rows_of (view_of way left)) held
+    pub altered_rows : r.answer ≡ Ok tt → rows ≡ in_front (rows_of (view_of way left)) held
     altered_rows e =
         let h = (listed_exactly way f held k a).0 (rw (← p.0) e) in
         let s = listed_step way f held k a ((alter_exactly way f k a).0 h.0).accepted h.1 in

@@ -1,5 +1,6 @@
 -- What requests 6 and 8 ask of taking out, over its contract: whatever outcome it permits has these properties.
 -- Assumes nothing.
+use Rattle.std.specs.Prelude.{Ok, Err}
 use mathlib.Core.Path.{◌≡◌, refl, sym, ap, ap₂, subst, ◌∙◌}
 use mathlib.Core.Logic.{◌↔◌}
 use mathlib.Core.Bool.{true, false}
@@ -9,10 +10,9 @@ use native.Mathlib.Omega.{arith}
 use lib.ListN.{length, take, drop, replicate}
 use lib.Seq.{length-take-le, take-append_seam, drop-append_seam}
 use Rattle.layout.specs.declared.Fault.{Fault}
-use Rattle.layout.specs.declared.Answer.{Answer}
 use Rattle.layout.specs.declared.Refusal.{Refusal}
-use Rattle.layout.specs.declared.Checked.{Checked}
-use Rattle.layout.specs.declared.Made.{Made}
+use Rattle.layout.specs.Answers.{Checked}
+use Rattle.layout.specs.Answers.{Made}
 use Rattle.layout.specs.declared.Way.{Way}
 use Rattle.check_record.specs.Record.{checked_of}
 use Rattle.view.specs.View.{sum_over, debit_of, credit_of, entries_of, view_of}
@@ -20,7 +20,7 @@ use Rattle.view.specs.Table.{formed, table_of}
 use Rattle.view.specs.Outcome.{made, write_of, exists}
 use Rattle.layout.specs.Paper.{refusal}
 use Rattle.view_laws.proofs.Own.{Told, own_entries}
-use Rattle.funds.specs.declared.RunsOut.{RunsOut}
+use Rattle.funds.specs.RunsOut.{RunsOut}
 use Rattle.funds.specs.Funds.{rows_of, in_front, begins_with, true_list, runs_out}
 use Rattle.funds.specs.Summed.{summed}
 use Rattle.funds.proofs.Asked.{own_list}
@@ -66,13 +66,13 @@ module _ (way : Way) where
 
     -- ---- the refusals, in order: "the file's own, 25 for the first bad number in the list, 27 if no entry would be left", and 23 last
 
-    pub recall_of_refused : (x : Refusal) → (checked_of way f).answer ≡ Answer.Refused x → r.answer ≡ Answer.Refused x
+    pub recall_of_refused : (x : Refusal) → (checked_of way f).answer ≡ Err x → r.answer ≡ Err x
     recall_of_refused x e = answer_is ∙ refused_own way f ns held x e
 
-    pub recall_bad_number : (k : ℕ) → (checked_of way f).answer ≡ Answer.Granted → named k ns ≡ true → exists (view_of way f) k ≡ false → r.answer ≡ refusal Fault.NoEntry 0 0
+    pub recall_bad_number : (k : ℕ) → (checked_of way f).answer ≡ Ok tt → named k ns ≡ true → exists (view_of way f) k ≡ false → r.answer ≡ refusal Fault.NoEntry 0 0
     recall_bad_number k g h bad = answer_is ∙ refused_number way f ns held g k h bad
 
-    module _ (g : (checked_of way f).answer ≡ Answer.Granted) (a : all_exist (view_of way f) ns ≡ true) where
+    module _ (g : (checked_of way f).answer ≡ Ok tt) (a : all_exist (view_of way f) ns ≡ true) where
       pub recall_of_all : length (entries_of (without (view_of way f) ns)) ≡ 0 → r.answer ≡ refusal Fault.NoneLeft 0 0
       recall_of_all z = answer_is ∙ refused_none way f ns held g a z
 
@@ -82,8 +82,8 @@ module _ (way : Way) where
       recall_no_room some short = answer_is ∙ refused_room way f ns held g a some short
 
     -- and it is granted otherwise
-    pub exactly_recalled : (r.answer ≡ Answer.Granted)
-        ↔ (((checked_of way f).answer ≡ Answer.Granted)
+    pub exactly_recalled : (r.answer ≡ Ok tt)
+        ↔ (((checked_of way f).answer ≡ Ok tt)
         × (all_exist (view_of way f) ns ≡ true)
         × (1 ≤ length (entries_of (without (view_of way f) ns)))
         × (2 * length (without (view_of way f) ns).batches ≤ length held))
@@ -93,15 +93,15 @@ module _ (way : Way) where
     )
 
     -- a refusal touches nothing, the list neither
-    pub recall_refused : (x : Refusal) → r.answer ≡ Answer.Refused x → (left ≡ f) × (rows ≡ held) × (r.length ≡ 0)
+    pub recall_refused : (x : Refusal) → r.answer ≡ Err x → (left ≡ f) × (rows ≡ held) × (r.length ≡ 0)
     recall_refused x e =
         let o = take_out_refused way f ns held x (sym answer_is ∙ e) in
         (p.1 ∙ o.0, p.2 ∙ o.1, ap (λ (m : Made). m.length) p.0 ∙ o.2)
 
     -- ---- a grant
 
-    module _ (g : r.answer ≡ Answer.Granted) where
-      granted : (take_out_of way f ns held).gives.answer ≡ Answer.Granted
+    module _ (g : r.answer ≡ Ok tt) where
+      granted : (take_out_of way f ns held).gives.answer ≡ Ok tt
       granted = sym answer_is ∙ g
 
       front : take r.length left ≡ take (take_out_of way f ns held).gives.length (take_out_of way f ns held).leaves
@@ -111,7 +111,7 @@ module _ (way : Way) where
       pub recall_afresh : take r.length left ≡ formed way (table_without (table_of way f) ns)
       recall_afresh = front ∙ take_out_written way f ns held granted
 
-      pub recall_accepted : (checked_of way (take r.length left)).answer ≡ Answer.Granted
+      pub recall_accepted : (checked_of way (take r.length left)).answer ≡ Ok tt
       recall_accepted = ap (λ x. (checked_of way x).answer) front ∙ take_out_accepted way f ns held granted
 
       pub recall_view : view_of way (take r.length left) ≡ without (view_of way f) ns
@@ -131,10 +131,10 @@ module _ (way : Way) where
       new_length = length-take-le r.length left (omega (arith, recall_length.0, recall_length.1))
 
       pub recall_as_written : (lent kept : List ℕ) (s : Made) → Writes way (table_without (table_of way f) ns) lent s kept → length f ≤ length lent
-          → (s.answer ≡ Answer.Granted) × (s.length ≡ r.length) × (take s.length kept ≡ take r.length left)
+          → (s.answer ≡ Ok tt) × (s.length ≡ r.length) × (take s.length kept ≡ take r.length left)
       recall_as_written lent kept s w l =
           let new = take r.length left in
-          let o : write_of way (table_without (table_of way f) ns) lent ≡ made Answer.Granted new lent =
+          let o : write_of way (table_without (table_of way f) ns) lent ≡ made (Ok tt) new lent =
           ap (λ t. write_of way t lent) (sym recall_table) ∙ write_file way new lent recall_accepted (omega (arith, recall_length.0, new_length)) in
           let d = done s kept new lent (w.0 ∙ ap (λ x. x.gives) o) (w.1 ∙ ap (λ x. x.leaves) o) in
           (d.0, d.1 ∙ new_length, d.2)
@@ -172,7 +172,7 @@ module _ (way : Way) where
 
       -- and checking the file left, with the list lent as it is, grants and changes nothing of it
       pub recall_then_check : (d : Checked) (list : List ℕ) → Checks way (take r.length left) rows d list
-          → (d ≡ checked_of way (take r.length left)) × (d.answer ≡ Answer.Granted) × (list ≡ rows)
+          → (d ≡ checked_of way (take r.length left)) × (d.answer ≡ Ok tt) × (list ≡ rows)
       recall_then_check d list u =
           let new = take r.length left in
           let own = rows_of (view_of way new) in
@@ -202,8 +202,8 @@ module _ (way : Way) where
           rw (told.entries, was.entries, ← length_gone (view_of way f) ns ((take_out_exactly way f ns held).0 granted).numbers) (length_without (view_of way f) ns)
 
   -- "An empty list is granted and changes nothing": with room it gives the file's own list
-  pub recall_of_none : (f held left rows : List ℕ) (r : Made) → (checked_of way f).answer ≡ Answer.Granted → 2 * length (view_of way f).batches ≤ length held
-      → TakesOut way f [] held r left rows → (r.answer ≡ Answer.Granted) × (r.length ≡ length f) × (left ≡ f) × (rows ≡ in_front (rows_of (view_of way f)) held)
+  pub recall_of_none : (f held left rows : List ℕ) (r : Made) → (checked_of way f).answer ≡ Ok tt → 2 * length (view_of way f).batches ≤ length held
+      → TakesOut way f [] held r left rows → (r.answer ≡ Ok tt) × (r.length ≡ length f) × (left ≡ f) × (rows ≡ in_front (rows_of (view_of way f)) held)
   recall_of_none f held left rows r g h p =
       let o = take_out_none way f held g h in
       let given = p.0 ∙ ap (λ x. x.gives) o in

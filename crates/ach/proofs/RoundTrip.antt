@@ -1,5 +1,6 @@
 -- "importing it, where granted, gives the six fields back": of a table that would be written, exported and imported again.
 -- Assumes nothing but that the file row and the batch row lent to the import have their lengths.
+use Rattle.std.specs.Prelude.{Ok, Err}
 use Prim.Native.Nat.{ℕ, suc, ◌+◌, ◌-◌, ◌^◌, ◌<◌, ◌≤◌}
 use native.Mathlib.Omega.{arith}
 use mathlib.Core.Path.{◌≡◌, refl, sym, ap, ◌∙◌, subst}
@@ -13,7 +14,7 @@ use Rattle.text.specs.Decimal.{pick, every, is_digit, digits, render}
 use Rattle.text.specs.Rows.{columns, rows, section, joined}
 use Rattle.text.proofs.DecimalLaws.{and_both, both_and, every_append, length_render}
 use Rattle.text.proofs.RowLaws.{section_count, section_rows}
-use Rattle.layout.specs.declared.Answer.{Answer}
+use Rattle.layout.specs.Answers.{Answer}
 use Rattle.layout.specs.declared.Fault.{Fault}
 use Rattle.layout.specs.declared.Way.{Way}
 use Rattle.layout.specs.Fields.{entry, part}
@@ -104,7 +105,7 @@ table_rows v s =
     ∙ ap (λ n. rows entry_wide n (drop count_wide (section count_wide rs ++ rest))) (section_count count_wide rs rest few)
     ∙ section_rows count_wide entry_wide rs rest (rows_of_entries (entries_of v) (entries_sized v.batches s.each))
 
-module _ (t : List ℕ) (g : writable t ≡ Answer.Granted) where
+module _ (t : List ℕ) (g : writable t ≡ Ok tt) where
   sized : Sized (view_of_table t)
   sized = shaped_sized t (shape_right t g)
 
@@ -122,7 +123,7 @@ module _ (t : List ℕ) (g : writable t ≡ Answer.Granted) where
   pub export_lines : lines_in (exported t) ≡ tails_of (rows_in entry_wide (entry_part t))
   export_lines = lines_back (rows_in entry_wide (entry_part t)) writable_plain
 
-  pub export_granted : lines_answer 1 (lines_in (exported t)) ≡ Answer.Granted
+  pub export_granted : lines_answer 1 (lines_in (exported t)) ≡ Ok tt
   export_granted = ap (lines_answer 1) export_lines ∙ lines_granted 1 (rows_in entry_wide (entry_part t)) writable_plain
 
   few_rows : length (rows_in entry_wide (entry_part t)) < 10 ^ count_wide
@@ -193,7 +194,7 @@ same_six r r' e =
       name = same_part 53 22 r r' (lit≤ tt) e;
     }
 
-module _ (filerow batchrow t : List ℕ) (f : length filerow ≡ file_wide) (h : length batchrow ≡ batch_wide) (g : writable t ≡ Answer.Granted) where
+module _ (filerow batchrow t : List ℕ) (f : length filerow ≡ file_wide) (h : length batchrow ≡ batch_wide) (g : writable t ≡ Ok tt) where
   -- as many rows come back, and of each the columns 2 to 76, which are the six fields one behind the other
   pub fields_back : map (take 75) (rows_in entry_wide (entry_part (import_table filerow batchrow (exported t)))) ≡ map (take 75) (rows_in entry_wide (entry_part t))
   fields_back =
@@ -226,10 +227,10 @@ module _ (filerow batchrow t : List ℕ) (f : length filerow ≡ file_wide) (h :
 -- ---- as outcomes of the two questions
 
 -- what a question says that it made stands in front of what it leaves
-front : (a : Answer) (result buffer : List ℕ) → (made a result buffer).gives.answer ≡ Answer.Granted
-    → (a ≡ Answer.Granted) × (take (made a result buffer).gives.length (made a result buffer).leaves ≡ result)
-front Answer.Granted result buffer e = (refl, take-append_seam result (drop (length result) buffer))
-front (Answer.Refused r) result buffer e = not_granted e
+front : (a : Answer) (result buffer : List ℕ) → (made a result buffer).gives.answer ≡ Ok tt
+    → (a ≡ Ok tt) × (take (made a result buffer).gives.length (made a result buffer).leaves ≡ result)
+front (Ok _) result buffer e = (refl, take-append_seam result (drop (length result) buffer))
+front (Err r) result buffer e = not_granted e
 
 -- the rows of the one table have the six fields of the other's, one by one
 pub record SameFields (t t' : List ℕ) : Type 0 where
@@ -244,13 +245,13 @@ module _ (filerow batchrow t lines table : List ℕ) where
   abbrev pub made_table : List ℕ → List ℕ
   made_table ls = take (import_of filerow batchrow ls table).gives.length (import_of filerow batchrow ls table).leaves
 
-  pub export_import : (export_of t lines).gives.answer ≡ Answer.Granted → (import_of filerow batchrow made_lines table).gives.answer ≡ Answer.Granted
+  pub export_import : (export_of t lines).gives.answer ≡ Ok tt → (import_of filerow batchrow made_lines table).gives.answer ≡ Ok tt
       → SameFields (made_table made_lines) t
   export_import e i =
       let ex = exported t in
       let a = front (and_then (writable t) (room ex lines)) ex lines e in
       let g = (then_granted (writable t) (room ex lines) a.0).0 in
-      let i' = subst (λ ls. (import_of filerow batchrow ls table).gives.answer ≡ Answer.Granted) a.1 i in
+      let i' = subst (λ ls. (import_of filerow batchrow ls table).gives.answer ≡ Ok tt) a.1 i in
       let new = import_table filerow batchrow ex in
       let b = front (and_then (import_answer filerow batchrow ex) (room new table)) new table i' in
       let answered = (then_granted (import_answer filerow batchrow ex) (room new table) b.0).0 in

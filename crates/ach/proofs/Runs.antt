@@ -1,15 +1,15 @@
 -- "After any run of alterations": each call is lent the file and the list that the one before it left.
 -- Assumes nothing.
+use Rattle.std.specs.Prelude.{Ok, Err}
 use mathlib.Core.Path.{◌≡◌, refl, sym, ap, ap₂, ◌∙◌}
 use mathlib.Core.Bool.{true, false}
 use mathlib.Core.List.{List, [], ◌∷◌}
 use Prim.Native.Nat.{ℕ, ◌≤◌}
 use lib.ListN.{length, take}
 use Rattle.text.specs.Decimal.{pick}
-use Rattle.layout.specs.declared.Answer.{Answer}
 use Rattle.layout.specs.declared.Refusal.{Refusal}
-use Rattle.layout.specs.declared.Made.{Made}
-use Rattle.layout.specs.declared.Altered.{Altered}
+use Rattle.layout.specs.Answers.{Made}
+use Rattle.layout.specs.Answers.{Altered}
 use Rattle.layout.specs.declared.Way.{Way}
 use Rattle.check_record.specs.Record.{checked_of}
 use Rattle.view.specs.View.{view_of}
@@ -28,7 +28,7 @@ use Rattle.ach.proofs.Grants.{write_file, done}
 module _ (way : Way) where
   -- the list lent at the start is the file's. Then, refused calls among them, the file is the one of the granted amounts, and the list is that
   -- file's; what stands behind it stays.
-  pub permitted : (calls : List (ℕ × ℕ)) (f held g rows : List ℕ) → (checked_of way f).answer ≡ Answer.Granted → true_list way f held ≡ true → Run way calls f held g rows
+  pub permitted : (calls : List (ℕ × ℕ)) (f held g rows : List ℕ) → (checked_of way f).answer ≡ Ok tt → true_list way f held ≡ true → Run way calls f held g rows
       → (g ≡ alter_run way calls f) × (rows ≡ in_front (rows_of (view_of way g)) held) × (length (rows_of (view_of way g)) ≡ length (rows_of (view_of way f)))
   unfolding alter_run
   permitted [] f held g rows a t p = (
@@ -48,23 +48,23 @@ module _ (way : Way) where
       )
 
   -- one call puts its amount into the table exactly if it is granted
-  pub granted_put : (f held left rows : List ℕ) (k a : ℕ) (r : Altered) → (checked_of way f).answer ≡ Answer.Granted → true_list way f held ≡ true → Alters way f held k a r left rows
+  pub granted_put : (f held left rows : List ℕ) (k a : ℕ) (r : Altered) → (checked_of way f).answer ≡ Ok tt → true_list way f held ≡ true → Alters way f held k a r left rows
       → table_of way left ≡ pick (is_granted r.answer) (altered_table (table_of way f) k a) (table_of way f)
   granted_put f held left rows k a r e t p =
       let o = as_asked way f held k a e t in
       rw (p.0 ∙ sym o.0, p.1 ∙ sym o.1) ((alter_step way f k a e).1 ∙ ap (λ b. pick b (altered_table (table_of way f) k a) (table_of way f)) (sym (may_put_lem way f k a e)))
 
-  module _ (calls : List (ℕ × ℕ)) (f held g rows : List ℕ) (a : (checked_of way f).answer ≡ Answer.Granted) (t : true_list way f held ≡ true) (p : Run way calls f held g rows) where
+  module _ (calls : List (ℕ × ℕ)) (f held g rows : List ℕ) (a : (checked_of way f).answer ≡ Ok tt) (t : true_list way f held ≡ true) (p : Run way calls f held g rows) where
     -- After any run of alterations, refused ones among them, the file is the one written from the table with each granted amount put in, in order,
     pub run_ends_in : g ≡ formed way (table_run way calls (table_of way f))
     run_ends_in = (permitted calls f held g rows a t p).0 ∙ run_file way calls f a
 
     pub run_as_written : (lent left : List ℕ) (s : Made) → Writes way (table_run way calls (table_of way f)) lent s left → length g ≤ length lent
-        → (s.answer ≡ Answer.Granted) × (s.length ≡ length g) × (take s.length left ≡ g)
+        → (s.answer ≡ Ok tt) × (s.length ≡ length g) × (take s.length left ≡ g)
     run_as_written lent left s w l =
         let e = (permitted calls f held g rows a t p).0 in
         let u = run_table way calls f a in
-        let o : write_of way (table_run way calls (table_of way f)) lent ≡ made Answer.Granted (alter_run way calls f) lent =
+        let o : write_of way (table_run way calls (table_of way f)) lent ≡ made (Ok tt) (alter_run way calls f) lent =
         ap (λ x. write_of way x lent) (sym u.1) ∙ write_file way (alter_run way calls f) lent u.0 (rw (← e) l) in
         rw e (done s left (alter_run way calls f) lent (w.0 ∙ ap (λ x. x.gives) o) (w.1 ∙ ap (λ x. x.leaves) o))
 
@@ -76,7 +76,7 @@ module _ (way : Way) where
     run_true = ap (true_list way g) run_list ∙ front_begins (rows_of (view_of way g)) held
 
   -- a run on a file that is not accepted, or with a list that is not its own, leaves both as they were
-  pub run_of_refused : (calls : List (ℕ × ℕ)) (f held g rows : List ℕ) (x : Refusal) → (checked_of way f).answer ≡ Answer.Refused x → Run way calls f held g rows → (g ≡ f) × (rows ≡ held)
+  pub run_of_refused : (calls : List (ℕ × ℕ)) (f held g rows : List ℕ) (x : Refusal) → (checked_of way f).answer ≡ Err x → Run way calls f held g rows → (g ≡ f) × (rows ≡ held)
   run_of_refused [] f held g rows x e p = p
   run_of_refused (call ∷ calls) f held g rows x e p =
       let o = file_first way f held call.0 call.1 x e in
@@ -84,7 +84,7 @@ module _ (way : Way) where
       let later = run_of_refused calls p.1 p.2 g rows x (ap (λ y. (checked_of way y).answer) left ∙ e) p.4 in
       (later.0 ∙ left, later.1 ∙ p.3.2 ∙ sym o.2)
 
-  pub run_of_other_list : (calls : List (ℕ × ℕ)) (f held g rows : List ℕ) → (checked_of way f).answer ≡ Answer.Granted → true_list way f held ≡ false → Run way calls f held g rows
+  pub run_of_other_list : (calls : List (ℕ × ℕ)) (f held g rows : List ℕ) → (checked_of way f).answer ≡ Ok tt → true_list way f held ≡ false → Run way calls f held g rows
       → (g ≡ f) × (rows ≡ held)
   run_of_other_list [] f held g rows a t p = p
   run_of_other_list (call ∷ calls) f held g rows a t p =

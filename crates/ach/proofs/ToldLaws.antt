@@ -1,17 +1,19 @@
 -- Why an answer's code fits, and what twenty-nine stores make of a lent array.
 -- Assumes nothing.
-use Prim.Native.Nat.{ℕ, ◌≤◌}
-use mathlib.Core.Path.{◌≡◌, refl, sym}
-use mathlib.Core.List.{List, [], ◌∷◌}
+use Rattle.std.specs.Prelude.{ℤ, Result, Ok, Err}
+use Prim.Native.Nat.{ℕ, ◌+◌, ◌≤◌}
+use mathlib.Core.Path.{◌≡◌, refl, sym, ◌∙◌}
+use mathlib.Core.List.{List, [], ◌∷◌, ◌++◌, append_assoc}
 use lib.Dec.{lit≤}
-use lib.Seq.{sets}
+use lib.ListN.{length, take, drop}
+use lib.Seq.{sets, sets-eq, length-sets, drop-drop}
 use Rattle.text.proofs.SetLaws.{sets_append}
-use Rattle.layout.specs.declared.Answer.{Answer}
-use Rattle.layout.specs.declared.Checked.{Checked}
+use Rattle.layout.specs.declared.Acceptance.{Acceptance}
+use Rattle.layout.specs.Answers.{answer_of, Checked, checked_as, Made, made_as, Altered, altered_as}
 use Rattle.layout.specs.declared.Refusal.{Refusal}
 use Rattle.layout.specs.declared.Fault.{Fault}
 use Rattle.layout.specs.Paper.{number_of}
-use Rattle.ach.specs.Told.{code_of_answer, numbers_of, numbers_left, left}
+use Rattle.ach.specs.Told.{code_of_answer, numbers_of, numbers_left, left, told_by}
 
 -- the paper's numbers are 1 to 34
 pub number_range : (f : Fault) → (1 ≤ number_of f) × (number_of f ≤ 34)
@@ -48,23 +50,30 @@ number_range Fault.Cents = (lit≤ tt, lit≤ tt)
 number_range Fault.Long = (lit≤ tt, lit≤ tt)
 number_range Fault.Rows = (lit≤ tt, lit≤ tt)
 
--- what a granted check leaves in the lent numbers
-pub granted_left : (c d : Checked) (lent : List ℕ) → c ≡ d → c.answer ≡ Answer.Granted
-    → (0 ≡ code_of_answer d.answer)
-    × (sets (sets lent 0 (c.batches ∷ c.entries ∷ c.addenda ∷ c.debit ∷ c.credit ∷ [])) 5 c.bycode ≡ numbers_left d.answer (numbers_of d) lent)
-granted_left c d lent e g =
-    rw (← e, g) (refl, sym (sets_append lent 0 (c.batches ∷ c.entries ∷ c.addenda ∷ c.debit ∷ c.credit ∷ []) c.bycode))
+-- what is told of a result is what is told of the answer that it stands for
+pub checked_told : (x : Result Acceptance Refusal) (c : Checked) (lent : List ℕ) → checked_as x ≡ c
+    → (code_of_answer (answer_of x) ≡ code_of_answer c.answer)
+    × (numbers_left (answer_of x) (numbers_of (checked_as x)) lent ≡ numbers_left c.answer (numbers_of c) lent)
+checked_told (Ok a) c lent e = rw (← e) (refl, refl)
+checked_told (Err r) c lent e = rw (← e) (refl, refl)
 
--- and a refused one leaves them as they were
-pub refused_left : (c d : Checked) (lent : List ℕ) (r : Refusal) → c ≡ d → c.answer ≡ Answer.Refused r → lent ≡ numbers_left d.answer (numbers_of d) lent
-refused_left c d lent r e g = rw (← e, g) refl
+pub made_told : (x : Result ℕ Refusal) (m : Made) (lent : ℕ) → made_as x ≡ m
+    → (code_of_answer (answer_of x) ≡ code_of_answer m.answer) × (told_by x lent ≡ left m.answer m.length lent)
+made_told (Ok n) m lent e = rw (← e) (refl, refl)
+made_told (Err r) m lent e = rw (← e) (refl, refl)
 
--- a grant is coded 0, and gives its number; a refusal leaves the lent one
-pub granted_code : (a b : Answer) → a ≡ b → a ≡ Answer.Granted → 0 ≡ code_of_answer b
-granted_code a b e g = rw (← e, g) refl
+pub altered_told : (x : Result ℤ Refusal) (m : Altered) (lent : ℤ) → altered_as x ≡ m
+    → (code_of_answer (answer_of x) ≡ code_of_answer m.answer) × (told_by x lent ≡ left m.answer m.difference lent)
+altered_told (Ok n) m lent e = rw (← e) (refl, refl)
+altered_told (Err r) m lent e = rw (← e) (refl, refl)
 
-pub granted_gives : {A : Type 0} (a b : Answer) (x y lent : A) → a ≡ b → a ≡ Answer.Granted → x ≡ y → x ≡ left b y lent
-granted_gives a b x y lent e g p = rw (← e, g) p
-
-pub refused_lent : {A : Type 0} (a b : Answer) (r : Refusal) (y lent : A) → a ≡ b → a ≡ Answer.Refused r → lent ≡ left b y lent
-refused_lent a b r y lent e g = rw (← e, g) refl
+-- the numbers of an acceptance: the first five stored one by one, the rows by code behind them
+pub numbers_put : (a : Acceptance) (lent : List ℕ) → length lent ≡ 29 → length a.bycode ≡ 24
+    → take 5 (sets lent 0 (a.batches ∷ a.entries ∷ a.addenda ∷ a.debit ∷ a.credit ∷ []))
+    ++ (a.bycode ++ drop 24 (drop 5 (sets lent 0 (a.batches ∷ a.entries ∷ a.addenda ∷ a.debit ∷ a.credit ∷ []))))
+    ≡ sets (sets lent 0 (a.batches ∷ a.entries ∷ a.addenda ∷ a.debit ∷ a.credit ∷ [])) 5 a.bycode
+numbers_put a lent l m =
+    let five = a.batches ∷ a.entries ∷ a.addenda ∷ a.debit ∷ a.credit ∷ [] in
+    let front = sets lent 0 five in
+    let n : 5 + length a.bycode ≤ length front = rw (length-sets, m, l) (lit≤ tt) in
+    rw (drop-drop 24 5 front) (sym (append_assoc (take 5 front) a.bycode (drop 29 front)) ∙ sym (rw m at (sets-eq a.bycode front 5 n)))

@@ -1,11 +1,12 @@
 -- The rules as they stood before a request, from the last request that moved them to the first. "What one state accepts, the next
 -- accepts, with the same counts and totals" can be said only of both.
+use Rattle.std.specs.Prelude.{Ok}
 use Rattle.std.specs.Prelude.{ℕ, ◌+◌, Bool, ◌&&◌, ◌||◌, not, List, [], ◌∷◌, map, leb, eqb, length, get_or}
 use Rattle.text.specs.Decimal.{pick, every, is_digit, digits, value}
 use Rattle.text.specs.Rows.{columns}
 use Rattle.text.specs.Same.{same_bytes}
 use Rattle.layout.specs.declared.Fault.{Fault}
-use Rattle.layout.specs.declared.Checked.{Checked}
+use Rattle.layout.specs.Answers.{Checked}
 use Rattle.layout.specs.declared.Kind.{Kind}
 use Rattle.layout.specs.declared.Near.{Near}
 use Rattle.layout.specs.declared.Own.{Own}
@@ -14,15 +15,15 @@ use Rattle.layout.specs.declared.Way.{Way}
 use Rattle.layout.specs.Fields.{rows_of, first_field}
 use Rattle.check_codes.specs.declared.Code.{Code}
 use Rattle.check_codes.specs.Codes.{code_of, known, allowed, carries, remits}
-use Rattle.check_alone.specs.declared.Mark.{Mark}
+use Rattle.check_alone.specs.Mark.{Mark}
 use Rattle.check_alone.specs.Kinds.{need, blank}
 use Rattle.check_alone.specs.Own.{unbroken, own_rule}
 use Rattle.check_across.specs.declared.Sums.{Sums}
 use Rattle.check_across.specs.Across.{entry_code, batch_class, trace_bank, trace_number, batch_bank, near_rule}
 use Rattle.check_field.specs.Field.{kind_rule}
 use Rattle.check_sums.specs.declared.State.{State}
-use Rattle.check_record.specs.declared.Verdict.{Verdict}
-use Rattle.check_record.specs.declared.Stepped.{Stepped}
+use Rattle.check_record.specs.Verdict.{Verdict}
+use Rattle.check_record.specs.Verdict.{Stepped}
 use Rattle.check_sums.specs.Sums.{start, tally}
 use Rattle.check_record.specs.Record.{Piece, found, line_of, stepped, closing, refused, onward, finished, length_fits, raw_records, piece_of}
 
@@ -32,7 +33,7 @@ abbrev pub Rule : Type 0
 Rule = Sums → List ℕ → List ℕ → Row → Mark
 
 unfoldable pub fields_by : Rule → ℕ → List Row → Sums → List ℕ → List ℕ → Verdict
-fields_by rule k [] s h r = Verdict.Passed
+fields_by rule k [] s h r = Ok tt
 fields_by rule k (row ∷ rows) s h r = found (rule s h r row) k (fields_by rule (k + 1) rows s h r)
 
 abbrev pub record_by : Rule → State → Piece → Stepped
@@ -77,13 +78,13 @@ code_before n = pick (remits (code_of n)) Code.Unknown (code_of n)
 abbrev pub code_unremitted : List ℕ → List ℕ → Mark
 code_unremitted h p =
     need (digits p) Fault.Digits
-    (need (known (code_before (value p))) Fault.Value (need (allowed (batch_class h) (code_before (value p))) Fault.Side Mark.Right))
+    (need (known (code_before (value p))) Fault.Value (need (allowed (batch_class h) (code_before (value p))) Fault.Side (Ok tt)))
 
 abbrev pub amount_unremitted : List ℕ → List ℕ → Mark
-amount_unremitted r p = need (digits p) Fault.Digits (need (carries (code_before (entry_code r)) (value p)) Fault.Amount Mark.Right)
+amount_unremitted r p = need (digits p) Fault.Digits (need (carries (code_before (entry_code r)) (value p)) Fault.Amount (Ok tt))
 
 abbrev pub flag_unremitted : List ℕ → Mark
-flag_unremitted p = need (eqb (get_or p 0 0) 48 || eqb (get_or p 0 0) 49) Fault.Value Mark.Right
+flag_unremitted p = need (eqb (get_or p 0 0) 48 || eqb (get_or p 0 0) 49) Fault.Value (Ok tt)
 
 abbrev pub near_unremitted : Sums → List ℕ → List ℕ → Near → List ℕ → Mark
 near_unremitted s h r Near.Code p = code_unremitted h p
@@ -104,7 +105,7 @@ is_unlettered b = is_digit b || eqb b 45 || eqb b 32
 
 abbrev pub account_unlettered : List ℕ → Mark
 account_unlettered p =
-    need (every is_unlettered p) Fault.Text (need (not (blank p)) Fault.Blank (need (unbroken p) Fault.Leading Mark.Right))
+    need (every is_unlettered p) Fault.Text (need (not (blank p)) Fault.Blank (need (unbroken p) Fault.Leading (Ok tt)))
 
 abbrev pub own_unlettered : Own → List ℕ → Mark
 own_unlettered Own.Destination p = own_rule Own.Destination p
@@ -127,7 +128,7 @@ trace_in_turn s n = pick (eqb s.batchrecords 0) (leb 1 n) (eqb n (s.trace + 1))
 abbrev pub trace_unskipped : Sums → List ℕ → List ℕ → Mark
 trace_unskipped s h p =
     need (digits p) Fault.Digits
-    (need (same_bytes (trace_bank p) (batch_bank h) && trace_in_turn s (trace_number p)) Fault.Trace Mark.Right)
+    (need (same_bytes (trace_bank p) (batch_bank h) && trace_in_turn s (trace_number p)) Fault.Trace (Ok tt))
 
 abbrev pub near_unskipped : Sums → List ℕ → List ℕ → Near → List ℕ → Mark
 near_unskipped s h r Near.Code p = near_unremitted s h r Near.Code p

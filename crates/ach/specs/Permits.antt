@@ -1,13 +1,13 @@
 -- The contracts: which result, and which content of everything lent, each public function permits, for any bytes at all,
 -- in either way of a file.
 use Rattle.std.specs.Prelude.{ℕ, ◌≡◌, List, [], ◌∷◌, take, drop}
-use Rattle.layout.specs.declared.Answer.{Answer}
-use Rattle.layout.specs.declared.Checked.{Checked}
-use Rattle.layout.specs.declared.Made.{Made}
-use Rattle.layout.specs.declared.Altered.{Altered}
+use Rattle.layout.specs.Answers.{Answer}
+use Rattle.layout.specs.Answers.{Checked}
+use Rattle.layout.specs.Answers.{Made}
+use Rattle.layout.specs.Answers.{Altered}
 use Rattle.layout.specs.declared.Way.{Way}
-use Rattle.find_entry.specs.declared.AskedSpan.{AskedSpan}
-use Rattle.funds.specs.declared.RunsOut.{RunsOut}
+use Rattle.find_entry.specs.AskedSpan.{AskedSpan}
+use Rattle.funds.specs.RunsOut.{RunsOut}
 use Rattle.funds.specs.Funds.{runs_out}
 use Rattle.funds.specs.Outcome.{check_of}
 use Rattle.alter.specs.Alter.{alter_listed_of}
@@ -15,7 +15,7 @@ use Rattle.csv_entry.specs.Import.{import_of}
 use Rattle.csv_export.specs.Export.{export_of}
 use Rattle.view.specs.Outcome.{read_of, write_of, addendum_answer, addendum_of}
 use Rattle.recall_view.specs.RecallView.{take_out_of}
-use Rattle.mend.specs.declared.Mended.{Mended}
+use Rattle.mend.specs.Mended.{Mended}
 use Rattle.mend.specs.Mend.{mend_of}
 
 -- check: the file f, and a lent list that held `held` and then holds `left`

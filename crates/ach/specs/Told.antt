@@ -1,10 +1,12 @@
 -- What callers in other languages see of an answer and of an acceptance.
+use Rattle.std.specs.Prelude.{Result, Ok, Err}
 use Rattle.std.specs.Prelude.{ℕ, ◌+◌, ◌*◌, ◌%◌, List, [], ◌∷◌, ◌++◌, eqb}
 use Rattle.std.proofs.lemmas.List.Edits.{sets}
-use Rattle.layout.specs.declared.Answer.{Answer}
-use Rattle.layout.specs.declared.Checked.{Checked}
+use Rattle.layout.specs.Answers.{Answer}
+use Rattle.layout.specs.Answers.{Checked}
 use Rattle.layout.specs.Paper.{Paper, paper_of}
 use Rattle.text.specs.Decimal.{pick}
+use Rattle.layout.specs.declared.Refusal.{Refusal}
 use Rattle.layout.specs.declared.Way.{Way}
 
 -- "0 the first way, any other the second"
@@ -24,10 +26,15 @@ numbers_of c = (c.batches ∷ c.entries ∷ c.addenda ∷ c.debit ∷ c.credit �
 
 -- granted, the numbers are written over the lent ones from the first on; a refusal leaves them untouched
 abbrev pub numbers_left : Answer → List ℕ → List ℕ → List ℕ
-numbers_left Answer.Granted given lent = sets lent 0 given
-numbers_left (Answer.Refused r) given lent = lent
+numbers_left (Ok _) given lent = sets lent 0 given
+numbers_left (Err r) given lent = lent
 
 -- a number that is given on a grant only
 abbrev pub left {ℓ} : {A : Type ℓ} → Answer → A → A → A
-left Answer.Granted given lent = given
-left (Answer.Refused r) given lent = lent
+left (Ok _) given lent = given
+left (Err r) given lent = lent
+
+-- the same of a result
+abbrev pub told_by : {A : Type 0} → Result A Refusal → A → A
+told_by (Ok given) lent = given
+told_by (Err r) lent = lent

@@ -7,7 +7,7 @@ use mathlib.Core.List.{List, [], ◌∷◌}
 use lib.Seq.{sets}
 use Rattle.layout.specs.declared.Way.{Way}
 use Rattle.text.specs.Decimal.{pick}
-use Rattle.funds.specs.declared.RunsOut.{RunsOut}
+use Rattle.funds.specs.RunsOut.{RunsOut}
 use Rattle.ach_c.specs.Tells.{row_numbers}
 
 pub found_told : (r s : RunsOut) (lent : List ℕ) (b : Bool) → r ≡ s → r.found ≡ b

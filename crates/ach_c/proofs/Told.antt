@@ -1,12 +1,13 @@
 -- A code tells the whole answer: nothing of number, field and record is cut.
 -- Assumes nothing.
+use Rattle.std.specs.Prelude.{Ok, Err}
 use Prim.Native.Nat.{ℕ, ◌+◌, ◌*◌, ◌/◌, ◌%◌, ◌≤◌}
 use mathlib.Core.Path.{◌≡◌, refl}
 use mathlib.Core.Logic.{◌↔◌}
 use mathlib.Core.List.{List}
 use lib.ListN.{length}
 use native.Mathlib.Omega.{arith}
-use Rattle.layout.specs.declared.Answer.{Answer}
+use Rattle.layout.specs.Answers.{Answer}
 use Rattle.layout.specs.Paper.{paper_of}
 use Rattle.funds.specs.Outcome.{check_of}
 use Rattle.alter.specs.Alter.{alter_listed_of}
@@ -26,7 +27,7 @@ pub record Told (c : ℕ) (a : Answer) : Type 0 where
   pub number : c % 256 ≡ (paper_of a).number
   pub field_no : c / 256 % 256 ≡ (paper_of a).field_no
   pub record_no : c / 65536 ≡ (paper_of a).record_no
-  pub granted : (c ≡ 0) ↔ (a ≡ Answer.Granted)
+  pub granted : (c ≡ 0) ↔ (a ≡ Ok tt)
 
 -- three small numbers, packed and unpacked
 module _ (n f r : ℕ) (p : n ≤ 34) (q : f ≤ 13) (l : r ≤ 4294967295) where
@@ -40,8 +41,8 @@ module _ (n f r : ℕ) (p : n ≤ 34) (q : f ≤ 13) (l : r ≤ 4294967295) wher
   not_zero m e = omega (arith, m, e)
 
 told : (a : Answer) → Coded a → Told (code_of_answer a) a
-told Answer.Granted l = record { number = refl; field_no = refl; record_no = refl; granted = (λ e. refl, λ e. refl) }
-told (Answer.Refused x) l =
+told (Ok _) l = record { number = refl; field_no = refl; record_no = refl; granted = (λ e. refl, λ e. refl) }
+told (Err x) l =
     let n = number_range x.fault in
     let u = unpacked _ x.field x.record.0 n.1 l.0 l.1 in
     record {

@@ -3,12 +3,12 @@
 use Rattle.std.specs.Prelude.{ℕ, ◌≡◌, List, [], ◌∷◌, ℤ}
 use Rattle.std.proofs.lemmas.List.Edits.{sets}
 use Rattle.text.specs.Decimal.{pick}
-use Rattle.layout.specs.declared.Answer.{Answer}
-use Rattle.layout.specs.declared.Altered.{Altered}
-use Rattle.layout.specs.declared.Checked.{Checked}
-use Rattle.layout.specs.declared.Made.{Made}
+use Rattle.layout.specs.Answers.{Answer}
+use Rattle.layout.specs.Answers.{Altered}
+use Rattle.layout.specs.Answers.{Checked}
+use Rattle.layout.specs.Answers.{Made}
 use Rattle.view.specs.Outcome.{Outcome, Part}
-use Rattle.funds.specs.declared.RunsOut.{RunsOut}
+use Rattle.funds.specs.RunsOut.{RunsOut}
 use Rattle.funds.specs.Outcome.{Listed}
 use Rattle.mend.specs.Mend.{Mending}
 use Rattle.ach.specs.Told.{code_of_answer, numbers_of, numbers_left, left}

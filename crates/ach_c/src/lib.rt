@@ -13,7 +13,7 @@ ghost use Rattle.recall_view.specs.RecallView.{take_out_of};
 ghost use Rattle.view.specs.Outcome.{read_of, write_of, addendum_answer, addendum_of};
 
 use ach::told;
-use layout::{Answer, EntryNo};
+use layout::EntryNo;
 
 #[unsafe(no_mangle)]
 pub extern "C" fn ach_check(
@@ -33,7 +33,7 @@ pub extern "C" fn ach_read(way: u64, file: &[u8], table: &mut [u8], length: &mut
     ensures { TellsMade (read_of (way_of way) file.now table.old) length.old result table.new length.new }
 {
     let made = ach::read(told::way_of(way), file, table);
-    told::tell_made(made, length)
+    told::tell(made, length)
 }
 
 #[unsafe(no_mangle)]
@@ -41,7 +41,7 @@ pub extern "C" fn ach_write(way: u64, table: &[u8], file: &mut [u8], length: &mu
     ensures { TellsMade (write_of (way_of way) table.now file.old) length.old result file.new length.new }
 {
     let made = ach::write(told::way_of(way), table, file);
-    told::tell_made(made, length)
+    told::tell(made, length)
 }
 
 #[unsafe(no_mangle)]
@@ -55,7 +55,7 @@ pub extern "C" fn ach_import(
     ensures { TellsMade (import_of filerow.now batchrow.now lines.now table.old) length.old result table.new length.new }
 {
     let made = ach::import(filerow, batchrow, lines, table);
-    told::tell_made(made, length)
+    told::tell(made, length)
 }
 
 #[unsafe(no_mangle)]
@@ -63,7 +63,7 @@ pub extern "C" fn ach_export(table: &[u8], lines: &mut [u8], length: &mut u64) -
     ensures { TellsMade (export_of table.now lines.old) length.old result lines.new length.new }
 {
     let made = ach::export(table, lines);
-    told::tell_made(made, length)
+    told::tell(made, length)
 }
 
 #[unsafe(no_mangle)]
@@ -77,7 +77,7 @@ pub extern "C" fn ach_take_out(
     ensures { TellsTakenOut (take_out_of (way_of way) file.old entries.now rows.old) length.old result file.new rows.new length.new }
 {
     let made = ach::take_out(told::way_of(way), file, entries, rows);
-    told::tell_made(made, length)
+    told::tell(made, length)
 }
 
 #[unsafe(no_mangle)]
@@ -91,14 +91,14 @@ pub extern "C" fn ach_mend(
 ) -> u64
     ensures { TellsMended (mend_of (way_of way) file.now mended.old changes.old) length.old listed.old result mended.new length.new changes.new listed.new }
 {
-    let made = ach::mend(told::way_of(way), file, mended, changes);
-    let answer = made.answer;
-    if let Answer::Granted = answer {
-        *length = made.length;
-        *listed = made.listed;
-        return 0;
+    match ach::mend(told::way_of(way), file, mended, changes) {
+        Ok(put) => {
+            *length = put.length;
+            *listed = put.listed;
+            0
+        }
+        Err(refusal) => told::code_of(Err(refusal)),
     }
-    told::code_of(answer)
 }
 
 #[unsafe(no_mangle)]
@@ -113,7 +113,7 @@ pub extern "C" fn ach_alter(
     ensures { TellsAltered (alter_listed_of (way_of way) file.old rows.old entry amount) difference.old result file.new rows.new difference.new }
 {
     let altered = ach::alter(told::way_of(way), file, rows, EntryNo(entry), amount);
-    told::tell_altered(altered, difference)
+    told::tell(altered, difference)
 }
 
 #[unsafe(no_mangle)]
@@ -126,14 +126,14 @@ pub extern "C" fn ach_addendum(
 ) -> u64
     ensures { TellsAsked (addendum_answer (way_of way) file.now entry) (addendum_of (way_of way) file.now entry) start.old length.old result start.new length.new }
 {
-    let span = ach::asked_span(told::way_of(way), file, EntryNo(entry));
-    let answer = span.answer;
-    if let Answer::Granted = answer {
-        *start = span.from as u64;
-        *length = span.size as u64;
-        return 0;
+    match ach::asked_span(told::way_of(way), file, EntryNo(entry)) {
+        Ok(span) => {
+            *start = span.from as u64;
+            *length = span.size as u64;
+            0
+        }
+        Err(refusal) => told::code_of(Err(refusal)),
     }
-    told::code_of(answer)
 }
 
 // 1 where a row is over the limit, and 0 where none is.
@@ -141,9 +141,18 @@ pub extern "C" fn ach_addendum(
 pub extern "C" fn ach_runs_out(rows: &[u64], limit: u64, answer: &mut [u64; 3]) -> u64
     ensures { TellsFound (runs_out limit rows.now) answer.old result answer.new }
 {
-    let asked = ach::runs_out(rows, limit);
-    answer[0] = asked.rows;
-    answer[1] = asked.record;
-    answer[2] = asked.credits;
-    if asked.found { 1 } else { 0 }
+    let funds = ach::runs_out(rows, limit);
+    answer[0] = funds.rows;
+    match funds.over {
+        Some(over) => {
+            answer[1] = over.record;
+            answer[2] = over.credits;
+            1
+        }
+        None => {
+            answer[1] = 0;
+            answer[2] = 0;
+            0
+        }
+    }
 }

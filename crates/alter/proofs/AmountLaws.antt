@@ -1,5 +1,6 @@
 -- An alteration is an exchange on the entry's side.
 -- Assumes nothing but what a statement says.
+use Rattle.std.specs.Prelude.{Ok, Err}
 use mathlib.Core.Path.{◌≡◌, refl, sym, ap, ap₂, ◌∙◌}
 use mathlib.Core.Bool.{Bool, true, false}
 use mathlib.Core.List.{List, []}
@@ -12,7 +13,7 @@ use lib.ListN.{length, get_or, take, drop}
 use lib.Seq.{sets}
 use Rattle.text.specs.Decimal.{value, render}
 use Rattle.text.proofs.DecimalLaws.{and_both, both_and, value_render_lt}
-use Rattle.layout.specs.declared.Answer.{Answer}
+use Rattle.layout.specs.Answers.{Answer}
 use Rattle.layout.specs.declared.Fault.{Fault}
 use Rattle.layout.specs.declared.Refusal.{Refusal}
 use Rattle.check_codes.specs.declared.Use.{Use}
@@ -43,15 +44,15 @@ use Rattle.alter.proofs.ExchangeLaws.{Comes, comes_refused}
 -- ---- the answer
 
 -- the file's refusals and 25 come before everything else
-asked_first : (a : Answer) (t : Bool) (none more : Answer) (r : Refusal) → and_then a (demand t none Answer.Granted) ≡ Answer.Refused r → and_then a (demand t none more) ≡ Answer.Refused r
-asked_first Answer.Granted true none more r e = cc
-asked_first Answer.Granted false none more r e = e
-asked_first (Answer.Refused x) t none more r e = e
+asked_first : (a : Answer) (t : Bool) (none more : Answer) (r : Refusal) → and_then a (demand t none (Ok tt)) ≡ Err r → and_then a (demand t none more) ≡ Err r
+asked_first (Ok _) true none more r e = cc
+asked_first (Ok _) false none more r e = e
+asked_first (Err x) t none more r e = e
 
-pub refused_first : (way : Way) (f : List ℕ) (k amount : ℕ) (r : Refusal) → addendum_answer way f k ≡ Answer.Refused r → Comes (Answer.Refused r) (pos 0) f (alter_of way f k amount)
+pub refused_first : (way : Way) (f : List ℕ) (k amount : ℕ) (r : Refusal) → addendum_answer way f k ≡ Err r → Comes (Err r) (pos 0) f (alter_of way f k amount)
 refused_first way f k amount r e = comes_refused _ _ f _ r (asked_first (checked_of way f).answer (exists (view_of way f) k) _ _ r e)
 
-pub asked_granted : (a : Answer) (t : Bool) (none more : Answer) → a ≡ Answer.Granted → t ≡ true → and_then a (demand t none more) ≡ more
+pub asked_granted : (a : Answer) (t : Bool) (none more : Answer) → a ≡ Ok tt → t ≡ true → and_then a (demand t none more) ≡ more
 asked_granted a t none more e h = rw (e, h)
 
 -- an amount that a code carries has ten digits
@@ -97,7 +98,7 @@ three_same x ef ea eb ec ey ez = rw (ef, ea, eb, ec, ey, ez)
 -- the two limits: of new totals y and z, at records m and n
 abbrev tried : ℕ → ℕ → ℕ → ℕ → Side → Answer
 tried y z m n s =
-    demand (leb y total_limit) (refusal Fault.Limit m s.batchfield) (demand (leb z total_limit) (refusal Fault.Limit n s.filefield) Answer.Granted)
+    demand (leb y total_limit) (refusal Fault.Limit m s.batchfield) (demand (leb z total_limit) (refusal Fault.Limit n s.filefield) (Ok tt))
 
 tried_same : {y y' m m' n n' : ℕ} (z : ℕ) (s : Side) → y ≡ y' → m ≡ m' → n ≡ n' → tried y z m n s ≡ tried y' z m' n' s
 tried_same z s ey em en = rw (ey, em, en)

@@ -1,47 +1,29 @@
 -- One amount exchanged for another, on one side.
 -- Assumes nothing.
+use Rattle.std.specs.Prelude.{Ok, Err}
 use mathlib.Core.Path.{◌≡◌, refl, sym, ap, ◌∙◌}
 use mathlib.Core.List.{List}
-use Prim.Native.Nat.{ℕ, ◌+◌, ◌-◌, ◌*◌, ◌≤◌}
-use native.Mathlib.Omega.{arith}
-use lib.Dec.{lit≤}
+use Prim.Native.Nat.{ℕ, ◌+◌, ◌-◌}
 use lib.IntN.{ℤ, pos, ◌-ℤ◌}
-use Rattle.layout.specs.declared.Answer.{Answer}
+use Rattle.layout.specs.Answers.{Answer}
 use Rattle.layout.specs.declared.Way.{Way}
-use Rattle.layout.specs.declared.Altered.{Altered}
+use Rattle.layout.specs.Answers.{Altered}
 use Rattle.layout.specs.declared.Refusal.{Refusal}
 use Rattle.view.specs.Outcome.{Outcome, altered}
 use Rattle.find_entry.specs.declared.find.Places.{Places}
 use Rattle.alter.specs.declared.sides.Side.{Side}
-use Rattle.alter.specs.WorkSides.{batch_total, side_answer, side_put, side_outcome, Ordered}
-use Rattle.layout.specs.Ways.{record_bytes}
-
--- some columns of record i, which is the last one or stands before it
-at : (way : Way) (i last n : ℕ) → i ≤ last → record_bytes way * (last + 1) ≤ n → (o m : ℕ) → o + m ≤ 94 → record_bytes way * i + o + m ≤ n
-at Way.Plain i last n h g o m e = omega arith
-at Way.Lined i last n h g o m e = omega arith
-
--- the three texts lie in the file
-module _ (way : Way) (n : ℕ) (p : Places) (s : Side) (o : Ordered way n p s) where
-  pub entry_in : record_bytes way * p.entry + 29 + 10 ≤ n
-  entry_in = at way p.entry p.last n (omega (arith, o.first, o.second)) o.inside 29 10 (lit≤ tt)
-
-  pub control_in : record_bytes way * p.control + s.batchat + 12 ≤ n
-  control_in = at way p.control p.last n (omega (arith, o.second)) o.inside s.batchat 12 o.batchat
-
-  pub last_in : record_bytes way * p.last + s.fileat + 12 ≤ n
-  last_in = at way p.last p.last n (omega arith) o.inside s.fileat 12 o.fileat
+use Rattle.alter.specs.WorkSides.{batch_total, side_answer, side_put, side_outcome}
 
 -- what is given, and what is left
 abbrev pub Comes : Answer → ℤ → List ℕ → Outcome Altered → Type 0
 Comes a d f o = (◌≡◌ {A = Altered} (record { answer = a; difference = d }) o.gives) × (f ≡ o.leaves)
 
 -- a grant gives the difference and leaves the result
-pub comes_granted : (a : Answer) (d d' : ℤ) (f g result : List ℕ) → a ≡ Answer.Granted → d' ≡ d → g ≡ result → Comes Answer.Granted d' g (altered a d result f)
+pub comes_granted : (a : Answer) (d d' : ℤ) (f g result : List ℕ) → a ≡ Ok tt → d' ≡ d → g ≡ result → Comes (Ok tt) d' g (altered a d result f)
 comes_granted a d d' f g result e h k = rw (e, h, k) (refl, refl)
 
 -- a refusal leaves the file
-pub comes_refused : (a : Answer) (d : ℤ) (f result : List ℕ) (r : Refusal) → a ≡ Answer.Refused r → Comes (Answer.Refused r) (pos 0) f (altered a d result f)
+pub comes_refused : (a : Answer) (d : ℤ) (f result : List ℕ) (r : Refusal) → a ≡ Err r → Comes (Err r) (pos 0) f (altered a d result f)
 comes_refused a d f result r e = rw e (refl, refl)
 
 -- the same outcome, said otherwise
@@ -54,10 +36,10 @@ module _ (way : Way) (f : List ℕ) (p : Places) (s : Side) (total old amount b 
   limits_are : side_answer p s (batch_total way f p s - old + amount) (total - old + amount) ≡ a
   limits_are = ap (λ n. side_answer p s (n - old + amount) (total - old + amount)) (sym read) ∙ sym answered
 
-  pub exchanged : (d : ℤ) (g : List ℕ) → a ≡ Answer.Granted → d ≡ pos amount -ℤ pos old
-      → g ≡ side_put way f p s amount (b - old + amount) (total - old + amount) → Comes Answer.Granted d g (side_outcome way f p s total old amount)
+  pub exchanged : (d : ℤ) (g : List ℕ) → a ≡ Ok tt → d ≡ pos amount -ℤ pos old
+      → g ≡ side_put way f p s amount (b - old + amount) (total - old + amount) → Comes (Ok tt) d g (side_outcome way f p s total old amount)
   exchanged d g e h k =
       comes_granted _ (pos amount -ℤ pos old) d f g _ (limits_are ∙ e) h (k ∙ ap (λ n. side_put way f p s amount (n - old + amount) (total - old + amount)) read)
 
-  pub not_exchanged : (r : Refusal) → a ≡ Answer.Refused r → Comes (Answer.Refused r) (pos 0) f (side_outcome way f p s total old amount)
+  pub not_exchanged : (r : Refusal) → a ≡ Err r → Comes (Err r) (pos 0) f (side_outcome way f p s total old amount)
   not_exchanged r e = comes_refused _ (pos amount -ℤ pos old) f _ r (limits_are ∙ e)

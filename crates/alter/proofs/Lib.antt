@@ -1,4 +1,3 @@
 pub mod Listing
 pub mod ExchangeLaws
-pub mod Signed
 pub mod AmountLaws

@@ -1,8 +1,8 @@
 -- What altering gives, and what it leaves of the file and of the list.
 use Rattle.std.specs.Prelude.{ℕ, List, pos, ◌-ℤ◌}
 use Rattle.layout.specs.declared.Fault.{Fault}
-use Rattle.layout.specs.declared.Answer.{Answer}
-use Rattle.layout.specs.declared.Altered.{Altered}
+use Rattle.layout.specs.Answers.{Answer}
+use Rattle.layout.specs.Answers.{Altered}
 use Rattle.layout.specs.declared.Way.{Way}
 use Rattle.check_record.specs.Record.{checked_of}
 use Rattle.view.specs.View.{amount_of, file_of, view_of}

@@ -1,10 +1,11 @@
 -- One side of a file: where its totals stand, and what an exchange of one amount makes of them.
+use Rattle.std.specs.Prelude.{Ok}
 use Rattle.std.specs.Prelude.{ℕ, ◌+◌, ◌-◌, ◌*◌, ◌≤◌, ◌<◌, List, leb, pos, ◌-ℤ◌, length, get_or, take, drop}
 use Rattle.std.proofs.lemmas.List.Edits.{sets}
 use Rattle.text.specs.Decimal.{value, render}
 use Rattle.layout.specs.declared.Fault.{Fault}
-use Rattle.layout.specs.declared.Answer.{Answer}
-use Rattle.layout.specs.declared.Altered.{Altered}
+use Rattle.layout.specs.Answers.{Answer}
+use Rattle.layout.specs.Answers.{Altered}
 use Rattle.layout.specs.Fields.{no_row, batch_control, file_control}
 use Rattle.check_field.specs.Field.{total_limit}
 use Rattle.view.specs.Outcome.{Outcome, demand, altered}
@@ -40,7 +41,7 @@ batch_total way f p s = value (take 12 (drop (record_bytes way * p.control + s.b
 abbrev pub side_answer : Places → Side → ℕ → ℕ → Answer
 side_answer p s batch whole =
     demand (leb batch total_limit) (refusal Fault.Limit (p.control + 1) s.batchfield)
-    (demand (leb whole total_limit) (refusal Fault.Limit (p.last + 1) s.filefield) Answer.Granted)
+    (demand (leb whole total_limit) (refusal Fault.Limit (p.last + 1) s.filefield) (Ok tt))
 
 -- columns 30-39 of the entry, the batch's total and the file's
 abbrev pub side_put : Way → List ℕ → Places → Side → ℕ → ℕ → ℕ → List ℕ

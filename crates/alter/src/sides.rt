@@ -2,15 +2,16 @@
 ghost use Rattle.std.specs.Prelude.{◌+◌, ◌*◌, ◌≤◌, ◌<◌, ◌≡◌, [], pos, ◌-ℤ◌, length, get_or};
 ghost use Rattle.std.proofs.lemmas.List.Edits.{sets};
 ghost use Rattle.text.specs.Decimal.{render};
+ghost use Rattle.layout.specs.Answers.{altered_as};
 ghost use Rattle.layout.specs.Ways.{record_bytes};
 ghost use Rattle.check_codes.specs.Codes.{code_of};
 ghost use Rattle.check_record.specs.Record.{columns_in};
 ghost use Rattle.check_across.specs.Across.{entry_code, entry_amount};
-ghost use Rattle.alter.specs.WorkSides.{debit_side, credit_side, batch_total, side_answer, side_put, side_outcome, Ordered, Ready};
+ghost use Rattle.alter.specs.WorkSides.{batch_total, side_answer, side_put, side_outcome, Ordered, Ready};
 
 use check_codes::Code;
 use find_entry::find::Places;
-use layout::{Altered, Answer, Fault, Way};
+use layout::{Answer, Fault, Refusal, Way};
 
 const LIMIT: u64 = 999_999_999_999;
 
@@ -30,26 +31,20 @@ pub struct Said {
     pub amount: u64,
 }
 
-pub fn debits() -> Side
-    ensures { result ≡ debit_side }
-{
-    Side {
+impl Side {
+    pub const DEBITS: Side = Side {
         batchfield: 5,
         batchat: 20,
         filefield: 6,
         fileat: 31,
-    }
-}
+    };
 
-pub fn credits() -> Side
-    ensures { result ≡ credit_side }
-{
-    Side {
+    pub const CREDITS: Side = Side {
         batchfield: 6,
         batchat: 32,
         filefield: 7,
         fileat: 43,
-    }
+    };
 }
 
 // The code and the amount of the record 6 at this index.
@@ -58,7 +53,7 @@ pub fn entry_said(way: Way, file: &[u8], i: usize) -> Said
     ensures { (result.code ≡ code_of (entry_code (get_or (columns_in way file.now) i []))) × (result.amount ≡ entry_amount (get_or (columns_in way file.now) i [])) }
 {
     let at = layout::record_bytes(way) * i;
-    let rec = &file[at..at + 94];
+    let rec = text::chunk(file, at);
     Said {
         code: check_codes::code_of(check_across::entry_code(rec)),
         amount: check_across::entry_amount(rec),
@@ -75,17 +70,17 @@ fn batch_total(way: Way, file: &[u8], places: Places, side: Side) -> u64
 }
 
 // Whether the new totals keep the limit, the batch's before the file's.
-fn limits(places: Places, side: Side, batch: u64, whole: u64) -> Answer
+fn limits(places: Places, side: Side, batch: u64, whole: u64) -> Answer<()>
     requires { (places.control < 1000000) × (places.last < 1000000) }
     ensures { result ≡ side_answer places side batch whole }
 {
     if LIMIT < batch {
-        return layout::refused(Fault::Limit, places.control as u64 + 1, side.batchfield);
+        return Err(Refusal::at(Fault::Limit, places.control as u64 + 1, side.batchfield));
     }
     if LIMIT < whole {
-        return layout::refused(Fault::Limit, places.last as u64 + 1, side.filefield);
+        return Err(Refusal::at(Fault::Limit, places.last as u64 + 1, side.filefield));
     }
-    Answer::Granted
+    Ok(())
 }
 
 // A number in `width` bytes of the file.
@@ -93,8 +88,7 @@ fn put_at(file: &mut [u8], at: usize, width: usize, n: u64)
     requires { at + width ≤ length file.old }
     ensures { file.new ≡ sets file.old at (render width n) }
 {
-    let end = at + width;
-    text::put_number(&mut file[at..end], n);
+    text::put_number(&mut file[at..at + width], n);
 }
 
 // The amount and the two totals of its side: no other byte is written.
@@ -125,24 +119,13 @@ pub fn exchange(
     total: u64,
     old: u64,
     amount: u64,
-) -> Altered
+) -> Answer<i64>
     requires { Ready way file.old places side total old amount }
-    ensures { (result ≡ (side_outcome way file.old places side total old amount).gives) × (file.new ≡ (side_outcome way file.old places side total old amount).leaves) }
+    ensures { (altered_as result ≡ (side_outcome way file.old places side total old amount).gives) × (file.new ≡ (side_outcome way file.old places side total old amount).leaves) }
 {
     let batch = batch_total(way, file, places, side) - old + amount;
     let whole = total - old + amount;
-    let answer = limits(places, side, batch, whole);
-    match answer {
-        Answer::Granted => {
-            put(way, file, places, side, amount, batch, whole);
-            Altered {
-                answer: Answer::Granted,
-                difference: difference(amount, old),
-            }
-        }
-        Answer::Refused(r) => Altered {
-            answer: Answer::Refused(r),
-            difference: 0,
-        },
-    }
+    limits(places, side, batch, whole)?;
+    put(way, file, places, side, amount, batch, whole);
+    Ok(difference(amount, old))
 }

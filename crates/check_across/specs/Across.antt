@@ -1,4 +1,5 @@
 -- What records say by the fields' numbers, and the rules that look at another field or an earlier record.
+use Rattle.std.specs.Prelude.{Ok}
 use Rattle.std.specs.Prelude.{ℕ, Bool, ◌&&◌, ◌||◌, not, List, [], ◌∷◌, leb, ltb, eqb, get_or}
 use Rattle.text.specs.Decimal.{pick, digits, value}
 use Rattle.text.specs.Rows.{columns}
@@ -9,7 +10,7 @@ use Rattle.layout.specs.Fields.{batch_header, entry, part}
 use Rattle.check_codes.specs.declared.Code.{Code}
 use Rattle.check_codes.specs.Codes.{code_of, known, allowed, carries, remits}
 use Rattle.check_digit.specs.CheckDigit.{check_digit}
-use Rattle.check_alone.specs.declared.Mark.{Mark}
+use Rattle.check_alone.specs.Mark.{Mark}
 use Rattle.check_alone.specs.Kinds.{need}
 use Rattle.check_across.specs.declared.Numbers.{Numbers}
 use Rattle.check_across.specs.declared.Sums.{Sums}
@@ -59,15 +60,15 @@ code_rule h p =
     need (digits p) Fault.Digits
     (need (known (code_of (value p))) Fault.Value
     (need (allowed (batch_class h) (code_of (value p))) Fault.Side
-    (need (class_takes h (code_of (value p))) Fault.Remittance Mark.Right)))
+    (need (class_takes h (code_of (value p))) Fault.Remittance (Ok tt))))
 
 -- record 6, field 4: "a digit; the check digit of field 3 (12)"
 abbrev pub check_digit_rule : List ℕ → List ℕ → Mark
-check_digit_rule r p = need (digits p) Fault.Digits (need (eqb (value p) (check_digit (part entry 3 r))) Fault.CheckDigit Mark.Right)
+check_digit_rule r p = need (digits p) Fault.Digits (need (eqb (value p) (check_digit (part entry 3 r))) Fault.CheckDigit (Ok tt))
 
 -- record 6, field 6: "digits, amount in cents (14)"
 abbrev pub amount_rule : List ℕ → List ℕ → Mark
-amount_rule r p = need (digits p) Fault.Digits (need (carries (code_of (entry_code r)) (value p)) Fault.Amount Mark.Right)
+amount_rule r p = need (digits p) Fault.Digits (need (carries (code_of (entry_code r)) (value p)) Fault.Amount (Ok tt))
 
 -- "the last seven digits must be greater than in the entry before within the batch", and "a first entry still has at least 1"
 abbrev pub trace_follows : Sums → ℕ → Bool
@@ -77,22 +78,22 @@ trace_follows s n = pick (eqb s.batchrecords 0) (leb 1 n) (ltb s.trace n)
 abbrev pub trace_rule : Sums → List ℕ → List ℕ → Mark
 trace_rule s h p =
     need (digits p) Fault.Digits
-    (need (same_bytes (trace_bank p) (batch_bank h) && trace_follows s (trace_number p)) Fault.Trace Mark.Right)
+    (need (same_bytes (trace_bank p) (batch_bank h) && trace_follows s (trace_number p)) Fault.Trace (Ok tt))
 
 -- record 7, field 5: "digits, the last seven of the entry's trace (16)"
 abbrev pub entry_trace_rule : Sums → List ℕ → Mark
-entry_trace_rule s p = need (digits p) Fault.Digits (need (eqb (value p) s.trace) Fault.Trace Mark.Right)
+entry_trace_rule s p = need (digits p) Fault.Digits (need (eqb (value p) s.trace) Fault.Trace (Ok tt))
 
 -- record 5, field 13: "digits, at least 1 and greater than the batch number before (17)"; before the first batch that is 0
 abbrev pub batch_number_rule : Sums → List ℕ → Mark
 batch_number_rule s p =
-    need (digits p) Fault.Digits (need (leb 1 (value p) && ltb s.number (value p)) Fault.BatchNumber Mark.Right)
+    need (digits p) Fault.Digits (need (leb 1 (value p) && ltb s.number (value p)) Fault.BatchNumber (Ok tt))
 
 -- record 6, field 10: "'0' or '1' (11)"; of a zero-dollar code 28 "at field 10 after 11 without the addendum"
 abbrev pub flag_rule : Code → List ℕ → Mark
 flag_rule c p =
     need (eqb (get_or p 0 0) 48 || eqb (get_or p 0 0) 49) Fault.Value
-    (need (not (remits c && not (eqb (get_or p 0 0) 49))) Fault.Remittance Mark.Right)
+    (need (not (remits c && not (eqb (get_or p 0 0) 49))) Fault.Remittance (Ok tt))
 
 abbrev pub near_rule : Sums → List ℕ → List ℕ → Near → List ℕ → Mark
 near_rule s h r Near.Code p = code_rule h p

@@ -2,16 +2,16 @@
 ghost use Rattle.std.specs.Prelude.{◌≤◌, ◌≡◌, true, length};
 ghost use Rattle.text.specs.Decimal.{every};
 ghost use Rattle.layout.specs.WorkFits.{own_fits};
-ghost use Rattle.check_digit.specs.CheckDigit.{group_sums};
 ghost use Rattle.check_alone.specs.Own.{real_time, time, destination, origin, modifier, class, entry_class, bank, is_account, unbroken, account, own_rule};
 
-use crate::{Mark, texts};
+use crate::{Mark, need, texts};
+use check_digit::GroupSums;
 use layout::{Fault, Own};
 
 fn real_time(hour: u64, minute: u64) -> bool
     ensures { result ≡ real_time hour minute }
 {
-    (hour <= 23) & (minute <= 59)
+    hour <= 23 && minute <= 59
 }
 
 fn time(p: &[u8]) -> Mark
@@ -19,147 +19,97 @@ fn time(p: &[u8]) -> Mark
     ensures { result ≡ time p.now }
 {
     if texts::blank(p) {
-        return Mark::Right;
+        return Ok(());
     }
-    if !text::digits(p) {
-        return Mark::Wrong(Fault::Digits);
-    }
+    texts::all_digits(p)?;
     let n = text::number(p);
-    if !real_time(n / 100, n % 100) {
-        return Mark::Wrong(Fault::Date);
-    }
-    Mark::Right
+    need(real_time(n / 100, n % 100), Fault::Date)
 }
 
-fn destination(groups: &[u8; 1000], p: &[u8]) -> Mark
-    requires { (length p.now ≡ 10) × (groups.now ≡ group_sums) }
+fn destination(groups: &GroupSums, p: &[u8]) -> Mark
+    requires { length p.now ≡ 10 }
     ensures { result ≡ destination p.now }
 {
-    if !texts::leads(p) {
-        return Mark::Wrong(Fault::Fixed);
-    }
-    if !text::digits(&p[1..10]) {
-        return Mark::Wrong(Fault::Digits);
-    }
-    if !check_digit::balanced(groups, text::number(&p[1..9]), text::number(&p[9..10])) {
-        return Mark::Wrong(Fault::CheckDigit);
-    }
-    Mark::Right
+    need(texts::leads(p), Fault::Fixed)?;
+    texts::all_digits(&p[1..10])?;
+    let bank = text::number(&p[1..9]);
+    let digit = text::number(&p[9..10]);
+    need(groups.balanced(bank, digit), Fault::CheckDigit)
 }
 
 fn origin(p: &[u8]) -> Mark
     requires { length p.now ≡ 10 }
     ensures { result ≡ origin p.now }
 {
-    if !text::digits(&p[1..10]) {
-        return Mark::Wrong(Fault::Digits);
-    }
-    if texts::leads(p) {
-        return Mark::Right;
-    }
-    if !text::is_digit(texts::first(p)) {
-        return Mark::Wrong(Fault::Value);
-    }
-    Mark::Right
+    texts::all_digits(&p[1..10])?;
+    need(matches!(p[0], b' ' | b'0'..=b'9'), Fault::Value)
 }
 
 fn modifier(p: &[u8]) -> Mark
     ensures { result ≡ modifier p.now }
 {
     let b = texts::first(p);
-    if ((b'A' <= b) & (b <= b'Z')) | text::is_digit(b) {
-        return Mark::Right;
-    }
-    Mark::Wrong(Fault::Value)
+    need(matches!(b, b'A'..=b'Z' | b'0'..=b'9'), Fault::Value)
 }
 
 fn class(p: &[u8]) -> Mark
     requires { length p.now ≤ 18 }
     ensures { result ≡ class p.now }
 {
-    if !text::digits(p) {
-        return Mark::Wrong(Fault::Digits);
-    }
-    let n = text::number(p);
-    if (n == 200) | (n == 220) | (n == 225) {
-        return Mark::Right;
-    }
-    Mark::Wrong(Fault::Value)
+    texts::all_digits(p)?;
+    need(matches!(text::number(p), 200 | 220 | 225), Fault::Value)
 }
 
+#[tactic(auto, using(text::proofs::DecimalLaws::same_length), unfolding(text::specs::Same::same_bytes))]
 fn entry_class(p: &[u8]) -> Mark
     ensures { result ≡ entry_class p.now }
 {
-    if text::same(p, b"PPD") {
-        return Mark::Right;
+    match p {
+        b"PPD" | b"CCD" => Ok(()),
+        _ => Err(Fault::Value),
     }
-    if text::same(p, b"CCD") {
-        return Mark::Right;
-    }
-    Mark::Wrong(Fault::Value)
 }
 
 pub fn bank(p: &[u8]) -> Mark
     ensures { result ≡ bank p.now }
 {
-    if !text::digits(p) {
-        return Mark::Wrong(Fault::Digits);
-    }
-    if texts::first(p) <= b'3' {
-        return Mark::Right;
-    }
-    Mark::Wrong(Fault::Bank)
+    texts::all_digits(p)?;
+    need(texts::first(p) <= b'3', Fault::Bank)
 }
 
 fn is_account(b: u8) -> bool
     ensures { result ≡ is_account b }
 {
-    text::is_digit(b) | (b == b'-') | (b == b' ') | ((b'A' <= b) & (b <= b'Z'))
+    b.is_ascii_digit() | b.is_ascii_uppercase() | (b == b'-') | (b == b' ')
 }
 
 fn all_account(p: &[u8]) -> bool
     ensures { result ≡ every is_account p.now }
 {
-    let mut all = true;
-    let mut i = 0;
-    while i < p.len() {
-        all = all & is_account(p[i]);
-        i += 1;
-    }
-    all
+    p.iter().fold(true, |all, b| all & is_account(*b))
 }
 
 // No blank before a later byte that is none.
 fn unbroken(p: &[u8]) -> bool
     ensures { result ≡ unbroken p.now }
 {
-    let mut all = true;
-    let mut i = 1;
-    while i < p.len() {
-        all = all & ((p[i - 1] != b' ') | (p[i] == b' '));
-        i += 1;
-    }
-    all
+    p.array_windows::<2>().fold(
+        true,
+        |all, [b, next]| all & ((*b != b' ') | (*next == b' ')),
+    )
 }
 
 pub fn account(p: &[u8]) -> Mark
     ensures { result ≡ account p.now }
 {
-    if !all_account(p) {
-        return Mark::Wrong(Fault::Text);
-    }
-    if texts::blank(p) {
-        return Mark::Wrong(Fault::Blank);
-    }
-    if !unbroken(p) {
-        return Mark::Wrong(Fault::Leading);
-    }
-    Mark::Right
+    need(all_account(p), Fault::Text)?;
+    need(!texts::blank(p), Fault::Blank)?;
+    need(unbroken(p), Fault::Leading)
 }
 
 // A field with a rule of its own.
-pub fn own(groups: &[u8; 1000], o: Own, p: &[u8]) -> Mark
-    requires { (own_fits o (length p.now) ≡ true) × (groups.now ≡ group_sums) }
+pub fn own(groups: &GroupSums, o: Own, p: &[u8]) -> Mark
+    requires { own_fits o (length p.now) ≡ true }
     ensures { result ≡ own_rule o p.now }
 {
     match o {

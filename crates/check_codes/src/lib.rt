@@ -2,7 +2,7 @@
 #![tactic(auto)]
 
 ghost use Rattle.std.specs.Prelude.{◌<◌, ◌≡◌};
-ghost use Rattle.check_codes.specs.Codes.{code_of, known, allowed, use_carries, carries, use_remits, remits, debit_part, credit_part, code_row};
+ghost use Rattle.check_codes.specs.Codes.{code_of, known, allowed, use_carries, carries, remits, debit_part, credit_part, code_row};
 
 // What a transaction code says.
 #[derive(Clone, Copy)]
@@ -37,11 +37,7 @@ pub fn code_of(n: u64) -> Code
 pub fn known(code: Code) -> bool
     ensures { result ≡ known code }
 {
-    match code {
-        Code::Unknown => false,
-        Code::Credit(_) => true,
-        Code::Debit(_) => true,
-    }
+    !matches!(code, Code::Unknown)
 }
 
 pub fn allowed(class: u64, code: Code) -> bool
@@ -58,9 +54,8 @@ fn use_carries(purpose: Use, amount: u64) -> bool
     ensures { result ≡ use_carries purpose amount }
 {
     match purpose {
-        Use::Live => (1 <= amount) & (amount <= 9_999_999_999),
-        Use::Prenote => amount == 0,
-        Use::Remittance => amount == 0,
+        Use::Live => (1..=9_999_999_999).contains(&amount),
+        Use::Prenote | Use::Remittance => amount == 0,
     }
 }
 
@@ -69,18 +64,7 @@ pub fn carries(code: Code, amount: u64) -> bool
 {
     match code {
         Code::Unknown => false,
-        Code::Credit(u) => use_carries(u, amount),
-        Code::Debit(u) => use_carries(u, amount),
-    }
-}
-
-fn use_remits(purpose: Use) -> bool
-    ensures { result ≡ use_remits purpose }
-{
-    match purpose {
-        Use::Live => false,
-        Use::Prenote => false,
-        Use::Remittance => true,
+        Code::Credit(purpose) | Code::Debit(purpose) => use_carries(purpose, amount),
     }
 }
 
@@ -88,11 +72,10 @@ fn use_remits(purpose: Use) -> bool
 pub fn remits(code: Code) -> bool
     ensures { result ≡ remits code }
 {
-    match code {
-        Code::Unknown => false,
-        Code::Credit(u) => use_remits(u),
-        Code::Debit(u) => use_remits(u),
-    }
+    matches!(
+        code,
+        Code::Credit(Use::Remittance) | Code::Debit(Use::Remittance)
+    )
 }
 
 // What an amount adds to the debits.
@@ -100,9 +83,8 @@ pub fn debit_part(code: Code, amount: u64) -> u64
     ensures { result ≡ debit_part code amount }
 {
     match code {
-        Code::Unknown => 0,
-        Code::Credit(_) => 0,
         Code::Debit(_) => amount,
+        Code::Unknown | Code::Credit(_) => 0,
     }
 }
 
@@ -111,9 +93,8 @@ pub fn credit_part(code: Code, amount: u64) -> u64
     ensures { result ≡ credit_part code amount }
 {
     match code {
-        Code::Unknown => 0,
         Code::Credit(_) => amount,
-        Code::Debit(_) => 0,
+        Code::Unknown | Code::Debit(_) => 0,
     }
 }
 

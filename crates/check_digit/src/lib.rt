@@ -109,28 +109,34 @@ const GROUP_SUMS: [u8; 1000] = [
     1, 2, 3, 4, 5, 6, 7, 8, 9,
 ];
 
-// The table to lend. A constant array that is indexed is built anew at each use: a check copies it once, where it begins.
-pub fn table() -> [u8; 1000]
-    ensures { result ≡ group_sums }
-{
-    GROUP_SUMS
+// The table, to be lent. A constant array that is indexed is built anew at each use: a check makes one copy, where it begins.
+#[derive(Clone, Copy)]
+pub struct GroupSums {
+    sums: [u8; 1000],
+    ghost right: { sums ≡ group_sums },
 }
 
-fn group(groups: &[u8; 1000], k: u64) -> u64
-    requires { (k < 1000) × (groups.now ≡ group_sums) }
-    ensures { (result ≡ group_sum k) × (result ≤ 9) }
-{
-    text::wide(groups[k as usize])
-}
+impl GroupSums {
+    pub fn new() -> GroupSums {
+        GroupSums { sums: GROUP_SUMS }
+    }
 
-// Whether the three groups of a bank's eight digits and the one behind them sum to a multiple of ten.
-pub fn balanced(groups: &[u8; 1000], bank: u64, digit: u64) -> bool
-    requires { (bank < 100000000) × (digit < 10) × (groups.now ≡ group_sums) }
-    ensures { result ≡ balanced (bank * 10 + digit) }
-{
-    let n = bank * 10 + digit;
-    let sum = group(groups, n / 1_000_000)
-        + group(groups, n / 1000 % 1000)
-        + group(groups, n % 1000);
-    sum % 10 == 0
+    #[tactic(auto, using(crate::proofs::GroupLaws::table_at, crate::proofs::GroupLaws::group_le))]
+    fn group(&self, k: u64) -> u64
+        requires { k < 1000 }
+        ensures value { result ≡ group_sum k }
+        ensures digit { result ≤ 9 }
+    {
+        u64::from(self.sums[k as usize])
+    }
+
+    // Whether the three groups of a bank's eight digits and the one behind them sum to a multiple of ten.
+    pub fn balanced(&self, bank: u64, digit: u64) -> bool
+        requires { (bank < 100000000) × (digit < 10) }
+        ensures { result ≡ balanced (bank * 10 + digit) }
+    {
+        let n = bank * 10 + digit;
+        let sum = self.group(n / 1_000_000) + self.group(n / 1000 % 1000) + self.group(n % 1000);
+        sum % 10 == 0
+    }
 }

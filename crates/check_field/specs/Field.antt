@@ -1,4 +1,5 @@
 -- One field's check: the kinds in the order of their numbers, with the sums that control records repeat.
+use Rattle.std.specs.Prelude.{Ok, Err}
 use Rattle.std.specs.Prelude.{ℕ, ◌+◌, ◌-◌, ◌/◌, ◌%◌, List, leb, eqb, length, take, drop}
 use Rattle.text.specs.Decimal.{digits, value}
 use Rattle.text.specs.Rows.{columns}
@@ -7,7 +8,7 @@ use Rattle.layout.specs.declared.Fault.{Fault}
 use Rattle.layout.specs.declared.Kind.{Kind}
 use Rattle.layout.specs.declared.Sum.{Sum}
 use Rattle.layout.specs.declared.Row.{Row}
-use Rattle.check_alone.specs.declared.Mark.{Mark}
+use Rattle.check_alone.specs.Mark.{Mark}
 use Rattle.check_alone.specs.Kinds.{need, nine_filled, blank_filled, fixed, all_digits, optional_text, mandatory_text, date}
 use Rattle.check_alone.specs.Own.{own_rule}
 use Rattle.check_across.specs.declared.Sums.{Sums}
@@ -32,7 +33,7 @@ sum_of s Sum.FileCredit = s.credit
 
 -- "digits, number of .. (18)"
 abbrev pub count_rule : ℕ → List ℕ → Mark
-count_rule n p = need (digits p) Fault.Digits (need (eqb (value p) n) Fault.Count Mark.Right)
+count_rule n p = need (digits p) Fault.Digits (need (eqb (value p) n) Fault.Count (Ok tt))
 
 -- "Entry hash: sum of the eight-digit field 3 of each 6 record, remainder by 10,000,000,000."
 abbrev pub hash_of : ℕ → ℕ
@@ -40,7 +41,7 @@ hash_of n = n % 10000000000
 
 -- "digits, entry hash (19)"
 abbrev pub hash_rule : ℕ → List ℕ → Mark
-hash_rule n p = need (digits p) Fault.Digits (need (eqb (value p) (hash_of n)) Fault.Hash Mark.Right)
+hash_rule n p = need (digits p) Fault.Digits (need (eqb (value p) (hash_of n)) Fault.Hash (Ok tt))
 
 abbrev pub total_limit : ℕ
 total_limit = 999999999999
@@ -48,17 +49,17 @@ total_limit = 999999999999
 -- "each digits (6), then the true sum at most 999,999,999,999 (20), then equal to it (21)"
 abbrev pub total_rule : ℕ → List ℕ → Mark
 total_rule n p =
-    need (digits p) Fault.Digits (need (leb n total_limit) Fault.Limit (need (eqb (value p) n) Fault.Total Mark.Right))
+    need (digits p) Fault.Digits (need (leb n total_limit) Fault.Limit (need (eqb (value p) n) Fault.Total (Ok tt)))
 
 -- "as in record 5 (22)": the same bytes as record 5 has from column c on
 abbrev pub as_batch_rule : List ℕ → ℕ → List ℕ → Mark
-as_batch_rule h c p = need (same_bytes p (take (length p) (drop (c - 1) h))) Fault.Batch Mark.Right
+as_batch_rule h c p = need (same_bytes p (take (length p) (drop (c - 1) h))) Fault.Batch (Ok tt)
 
 -- a field's kind against its bytes p: s is what was summed before this record r, and h the record 5 of its batch
 abbrev pub kind_rule : Sums → List ℕ → List ℕ → Kind → List ℕ → Mark
-kind_rule s h r Kind.Type p = Mark.Right
-kind_rule s h r Kind.Misplaced p = Mark.Wrong Fault.Misplaced
-kind_rule s h r Kind.Past p = Mark.Wrong Fault.Past
+kind_rule s h r Kind.Type p = Ok tt
+kind_rule s h r Kind.Misplaced p = Err Fault.Misplaced
+kind_rule s h r Kind.Past p = Err Fault.Past
 kind_rule s h r Kind.Nines p = nine_filled p
 kind_rule s h r (Kind.Fixed n) p = fixed n p
 kind_rule s h r Kind.Blanks p = blank_filled p

@@ -1,4 +1,3 @@
 pub mod Laws
 pub mod QuickLaws
 pub mod Ways
-pub mod OutcomeLaws

@@ -1,26 +1,22 @@
 -- The quick tests say what the walk along the table would.
 -- Assumes nothing.
+use Rattle.std.specs.Prelude.{Ok}
 use Prim.Native.Nat.{ℕ}
 use mathlib.Core.Path.{◌≡◌, refl}
-use mathlib.Core.Bool.{true, false≢true}
+use mathlib.Core.Bool.{true}
 use mathlib.Core.List.{List}
 use Rattle.text.proofs.DecimalLaws.{and_both}
 use Rattle.layout.specs.Fields.{entry, addendum, part}
-use Rattle.check_alone.specs.declared.Mark.{Mark}
 use Rattle.check_codes.specs.Codes.{code_of}
 use Rattle.check_alone.specs.Kinds.{fixed, optional_text, mandatory_text}
 use Rattle.check_alone.specs.Own.{bank, account}
 use Rattle.check_across.specs.declared.Sums.{Sums}
 use Rattle.check_across.specs.Across.{entry_code, code_rule, check_digit_rule, amount_rule, flag_rule, trace_rule, entry_trace_rule}
-use Rattle.check_quick.specs.WorkQuick.{is_right, entry_front, entry_back, addendum_all}
-use Rattle.check_record.specs.declared.Verdict.{Verdict}
+use Rattle.check_quick.specs.WorkQuick.{entry_front, entry_back, addendum_all}
 use Rattle.check_record.specs.Record.{fields_from}
+use Rattle.check_record.proofs.Laws.{right_is}
 
-right_is : (m : Mark) → is_right m ≡ true → m ≡ Mark.Right
-right_is Mark.Right e = refl
-right_is (Mark.Wrong f) e = absurd (false≢true e)
-
-pub entry_passes : (s : Sums) (h r : List ℕ) → entry_front h r ≡ true → entry_back s h r ≡ true → fields_from 1 entry s h r ≡ Verdict.Passed
+pub entry_passes : (s : Sums) (h r : List ℕ) → entry_front h r ≡ true → entry_back s h r ≡ true → fields_from 1 entry s h r ≡ Ok tt
 unfolding fields_from
 entry_passes s h r f b =
     let f4 = and_both _ _ f in
@@ -45,7 +41,7 @@ entry_passes s h r f b =
     )
     refl
 
-pub addendum_passes : (s : Sums) (h r : List ℕ) → addendum_all s r ≡ true → fields_from 1 addendum s h r ≡ Verdict.Passed
+pub addendum_passes : (s : Sums) (h r : List ℕ) → addendum_all s r ≡ true → fields_from 1 addendum s h r ≡ Ok tt
 unfolding fields_from
 addendum_passes s h r a =
     let a3 = and_both _ _ a in

@@ -3,20 +3,18 @@
 use Prim.Native.Nat.{ℕ, suc, ◌+◌, ◌-◌, ◌*◌, ◌/◌, ◌%◌, ◌<◌, ◌≤◌}
 use native.Mathlib.Omega.{arith}
 use mathlib.Core.Path.{◌≡◌, refl, ap, ◌∙◌}
-use mathlib.Core.Bool.{Bool, true, false, ◌&&◌}
-use mathlib.Core.List.{List, [], ◌∷◌}
+use mathlib.Core.Bool.{true}
+use mathlib.Core.List.{List, [], ◌∷◌, ◌++◌}
 use lib.Dec.{eqb}
-use lib.ListN.{length, get_or, take, drop, length-take, length-drop, drop_of_length-le}
-use lib.Seq.{drop-cons, drop-drop, take-take}
+use lib.ListN.{length, take, drop, length-take, length-drop, length-append, drop_of_length-le}
+use lib.Seq.{drop-cons, drop-drop, take-take, take-append_seam, drop-append_seam}
+use Rattle.std.proofs.lemmas.Bool.Decides.{nat_tests}
+use Rattle.std.specs.List.{ends_with}
 use Rattle.text.specs.Rows.{rows}
 use Rattle.text.specs.Same.{same_bytes}
 use Rattle.layout.specs.declared.Way.{Way}
 use Rattle.layout.specs.Ways.{end_of, record_bytes}
 use Rattle.check_record.specs.Record.{raw_records}
-
-and_true : (b : Bool) → b && true ≡ b
-and_true true = refl
-and_true false = refl
 
 -- what the code sees of a line end
 pub closed_plain : (way : Way) (r : List ℕ) → way ≡ Way.Plain → length r ≡ record_bytes way → true ≡ same_bytes (drop 94 r) (end_of way)
@@ -26,15 +24,15 @@ closed_plain way r e l =
     let most : length r ≤ 94 = omega arith in
     rw (drop_of_length-le r most, e) refl
 
-pub lined_long : (way : Way) (r : List ℕ) → way ≡ Way.Lined → length r ≡ record_bytes way → length r ≡ 96
-lined_long way r e l = l ∙ ap record_bytes e
+eqb_swap : (a b : ℕ) → eqb a b ≡ eqb b a
+eqb_swap a b = grind (arith, nat_tests)
 
-pub closed_lined : (way : Way) (r : List ℕ) → way ≡ Way.Lined → length r ≡ record_bytes way → eqb (get_or r 94 0) 13 && eqb (get_or r 95 0) 10 ≡ same_bytes (drop 94 r) (end_of way)
+pub closed_lined : (way : Way) (r : List ℕ) → way ≡ Way.Lined → length r ≡ record_bytes way → ends_with eqb r (13 ∷ 10 ∷ []) ≡ same_bytes (drop 94 r) (end_of way)
 unfolding same_bytes
 closed_lined way r e l =
-    let long = lined_long way r e l in
+    let long : length r ≡ 96 = l ∙ ap record_bytes e in
     let most : length r ≤ 96 = omega arith in
-    rw (e, drop-cons r 94 0 (omega arith), drop-cons r 95 0 (omega arith), drop_of_length-le r most, and_true (eqb (get_or r 95 0) 10)) refl
+    rw (e, long, drop-cons r 94 0 (omega arith), drop-cons r 95 0 (omega arith), drop_of_length-le r most, eqb_swap 13, eqb_swap 10) refl
 
 -- a file's records by its length
 pub some_bytes : (way : Way) → 0 < record_bytes way
@@ -60,6 +58,29 @@ rows_few Way.Lined n h = omega arith
 pub rows_many : (way : Way) (n : ℕ) → 1000000 < n → record_bytes way * 1000000 < record_bytes way * n
 rows_many Way.Plain n h = omega arith
 rows_many Way.Lined n h = omega arith
+
+-- ---- the walk along a file, chunk by chunk: its first record, and what stands behind it
+
+one_chunk : (way : Way) (n m : ℕ) → n ≡ record_bytes way → (n + m) / record_bytes way ≡ suc (m / record_bytes way)
+one_chunk Way.Plain n m h = omega arith
+one_chunk Way.Lined n m h = omega arith
+
+first_row : (k : ℕ) (x rest : List ℕ) → rows (length x) (suc k) (x ++ rest) ≡ x ∷ rows (length x) k rest
+unfolding rows
+first_row k x rest = rw (take-append_seam x rest, drop-append_seam x rest) refl
+
+pub raw_chunk : (way : Way) (x rest : List ℕ) → length x ≡ record_bytes way → raw_records way (x ++ rest) ≡ x ∷ raw_records way rest
+raw_chunk way x rest h =
+    rw (length-append x rest, one_chunk way (length x) (length rest) h)
+    (rw h at (first_row (length rest / record_bytes way) x rest))
+
+no_chunk : (way : Way) (n : ℕ) → n < record_bytes way → n / record_bytes way ≡ 0
+no_chunk Way.Plain n h = omega arith
+no_chunk Way.Lined n h = omega arith
+
+pub raw_none : (way : Way) (rest : List ℕ) → length rest < record_bytes way → raw_records way rest ≡ []
+unfolding rows
+raw_none way rest h = rw (no_chunk way (length rest) h) refl
 
 -- ---- the walk along a file: what stands from byte `at` on
 

@@ -1,32 +1,32 @@
 -- The check: records in order, fields in order, and the first refusal.
+use Rattle.std.specs.Prelude.{Ok, Err}
 use Rattle.std.specs.Prelude.{ℕ, ◌+◌, ◌*◌, ◌/◌, ◌%◌, Bool, true, false, ◌&&◌, List, [], ◌∷◌, map, leb, eqb, length, get_or, take, drop, replicate}
 use Rattle.text.specs.Decimal.{pick}
 use Rattle.text.specs.Rows.{rows}
 use Rattle.text.specs.Same.{same_bytes}
 use Rattle.layout.specs.declared.Fault.{Fault}
-use Rattle.layout.specs.declared.Answer.{Answer}
-use Rattle.layout.specs.declared.Checked.{Checked}
+use Rattle.layout.specs.Answers.{Checked}
 use Rattle.layout.specs.declared.Row.{Row}
 use Rattle.layout.specs.declared.Line.{Line}
 use Rattle.layout.specs.declared.Way.{Way}
 use Rattle.layout.specs.Fields.{record_columns, rows_of, first_field}
 use Rattle.layout.specs.Ways.{end_of, record_bytes}
-use Rattle.check_alone.specs.declared.Mark.{Mark}
+use Rattle.check_alone.specs.Mark.{Mark}
 use Rattle.check_across.specs.declared.Sums.{Sums}
 use Rattle.check_field.specs.Field.{field_of}
 use Rattle.check_sums.specs.declared.State.{State}
-use Rattle.check_record.specs.declared.Verdict.{Verdict}
-use Rattle.check_record.specs.declared.Stepped.{Stepped}
+use Rattle.check_record.specs.Verdict.{Verdict, wrong_of}
+use Rattle.check_record.specs.Verdict.{Stepped}
 use Rattle.check_order.specs.Order.{line_at, complete}
 use Rattle.check_sums.specs.Sums.{start, tally}
 
 abbrev pub found : Mark → ℕ → Verdict → Verdict
-found Mark.Right k rest = rest
-found (Mark.Wrong fault) k rest = Verdict.Failed fault k
+found (Ok _) k rest = rest
+found (Err fault) k rest = Err (wrong_of fault k)
 
 -- "Fields are tried in order": the rows of a record type, the first of them with number k
 unfoldable pub fields_from : ℕ → List Row → Sums → List ℕ → List ℕ → Verdict
-fields_from k [] s h r = Verdict.Passed
+fields_from k [] s h r = Ok tt
 fields_from k (row ∷ rows) s h r = found (field_of s h r row) k (fields_from (k + 1) rows s h r)
 
 -- what the record r is taken for in this state: its first byte and its place decide
@@ -34,8 +34,8 @@ abbrev pub line_of : State → List ℕ → Line
 line_of st r = line_at st.place st.sums.records (get_or r 0 0)
 
 abbrev pub stepped : Verdict → State → State → Stepped
-stepped Verdict.Passed next st = record { verdict = Verdict.Passed; state = next }
-stepped (Verdict.Failed fault k) next st = record { verdict = Verdict.Failed fault k; state = st }
+stepped (Ok _) next st = record { verdict = Ok tt; state = next }
+stepped (Err wrong) next st = record { verdict = Err wrong; state = st }
 
 -- a record as a file has it: its columns, and whether they are followed by the line end of the file's way
 pub record Piece : Type 0 where
@@ -49,8 +49,8 @@ bare r = record { columns = r; closed = true }
 -- 26: "a record not followed by CR LF, given after all its fields, with field 0"
 abbrev pub closing : Bool → Verdict → Verdict
 closing true fields = fields
-closing false Verdict.Passed = Verdict.Failed Fault.LineEnd 0
-closing false (Verdict.Failed fault k) = Verdict.Failed fault k
+closing false (Ok _) = Err (wrong_of Fault.LineEnd 0)
+closing false (Err wrong) = Err wrong
 
 -- one record
 abbrev pub record_of : State → Piece → Stepped
@@ -63,7 +63,7 @@ record_of st p =
 abbrev pub refused : Fault → ℕ → ℕ → Checked
 refused fault n k =
     record {
-      answer = Answer.Refused (record { fault = fault; «record» = record { 0 = n }; field = k });
+      answer = Err (record { fault = fault; «record» = record { 0 = n }; field = k });
       batches = 0;
       entries = 0;
       addenda = 0;
@@ -76,7 +76,7 @@ refused fault n k =
 abbrev pub accepted : State → Checked
 accepted st =
     record {
-      answer = Answer.Granted;
+      answer = Ok tt;
       batches = st.sums.batches;
       entries = st.sums.entries;
       addenda = st.sums.addenda;
@@ -86,8 +86,8 @@ accepted st =
     }
 
 abbrev pub onward : Verdict → ℕ → Checked → Checked
-onward Verdict.Passed n rest = rest
-onward (Verdict.Failed fault k) n rest = refused fault n k
+onward (Ok _) n rest = rest
+onward (Err wrong) n rest = refused wrong.fault n wrong.field
 
 -- 2: "data end where a record is still due, filler included", at records + 1
 abbrev pub finished : State → Checked

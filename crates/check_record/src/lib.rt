@@ -1,23 +1,18 @@
 // One record's check, in the state that the records before it left.
 #![tactic(auto)]
 
-use check_sums::State;
 use layout::Fault;
 
 pub mod outcome;
 pub mod quick;
 pub mod step;
 
-// What a record's fields say of it: passed, or the first refusal with its field's number.
+// What is wrong with a record, and the number of the field that it is found in.
 #[derive(Clone, Copy)]
-pub enum Verdict {
-    Passed,
-    Failed(Fault, u64),
+pub struct Wrong {
+    pub fault: Fault,
+    pub field: u64,
 }
 
-// One record's check. A record that failed leaves the state as it was.
-#[derive(Clone, Copy)]
-pub struct Stepped {
-    pub verdict: Verdict,
-    pub state: State,
-}
+// What a record's fields say of it: passed, or the first refusal with its field's number.
+pub type Verdict = Result<(), Wrong>;

@@ -1,156 +1,78 @@
 -- The walk along a field, along the fields of a line, and along a text with one quote for two.
 -- Assumes nothing.
-use Prim.Native.Nat.{ℕ, zero, suc, ◌+◌, ◌-◌, ◌<◌, ◌≤◌}
-use native.Mathlib.Nat.{le_of_eq}
-use native.Mathlib.Numerals.{add-one}
-use native.Mathlib.Omega.{arith}
-use mathlib.Core.Path.{◌≡◌, refl, sym, ap, ap₂, ◌∙◌}
-use mathlib.Core.Bool.{Bool, true, false, ◌&&◌}
-use mathlib.Core.List.{List, [], ◌∷◌, ◌++◌}
-use lib.Dec.{leb, eqb}
-use lib.ListN.{length, get_or, take, drop, replicate, set, length-drop, length-append, length-replicate, drop_of_length-le, get_or-eq_default}
-use lib.Seq.{sets, drop-cons, drop-drop, take_all}
-use borrow.Author.Tests.{eq-eqb, ne_eqb, le-leb, lt-leb}
-use Rattle.text.proofs.SetLaws.{sets_whole}
-use Rattle.csv_cells.specs.declared.Cell.{Cell}
+use Rattle.std.proofs.Common.{◌≡◌, ◌≢◌, ℕ, zero, suc, ◌+◌, ◌-◌, ◌<◌, ◌≤◌, Bool, true, false, ◌&&◌, List, [], ◌∷◌, ◌++◌, eqb, length, get_or, take, drop, set, replicate, Option, Some, None, unwrap_or, MatchOption, refl, sym, ap, ap₂, ◌∙◌, arith, drop-cons, add-one, drop_of_length-le, length-set, append_assoc, map, Bor, get_or-drop, add-zero}
+use Rattle.std.proofs.lemmas.List.{take_rest, take_all, map-set, length-map}
+use Rattle.std.proofs.lemmas.Bool.Decides.{nat_tests}
+use Rattle.std.specs.List.{starts_with}
+use Rattle.std.proofs.lemmas.Grind.{take-set_at}
+use borrow.Author.Tests.{eq-eqb, ne_eqb}
 use Rattle.csv_cells.specs.declared.Scan.{Scan}
-use Rattle.csv_cells.specs.Cells.{go_on, is_stuck, may_end, size_from, ends_from, cell_of, inner_of, undoubled, stop_from, break_at, fields_right, last_stop, size_by, filled_to}
+use Rattle.csv_cells.specs.Cells.{go_on, is_stuck, may_end, size_from, ends_from, cell_of, undoubled, stop_from, text_from, break_at, fields_right, texts_from, last_stop, size_by, six_fields, six_texts, line_size, filled_to}
 
 -- ---- a field
 
-module _ (s : List ℕ) (i : ℕ) (scan : Scan) where
+-- i bytes of the field at the front of s have been walked over
+pub record Walked (s : List ℕ) (i : ℕ) (scan : Scan) : Type 0 where
+  pub size : i + size_from scan (drop i s) ≡ size_from Scan.Fresh s
+  pub ends : ends_from scan (drop i s) ≡ ends_from Scan.Fresh s
+
+pub walk_first : (s : List ℕ) → Walked s 0 Scan.Fresh
+walk_first s = record { size = omega arith; ends = refl }
+
+module _ (s : List ℕ) (i : ℕ) (scan next : Scan) (w : Walked s i scan) (e : next ≡ go_on scan (get_or s i 0)) where
   -- one byte more
-  pub size_more : i < length s → is_stuck (go_on scan (get_or s i 0)) ≡ false → size_from scan (drop i s) ≡ 1 + size_from (go_on scan (get_or s i 0)) (drop (i + 1) s)
-  unfolding size_from
-  size_more h e = rw (drop-cons s i 0 h, e, add-one i) refl
-
-  pub ends_more : i < length s → is_stuck (go_on scan (get_or s i 0)) ≡ false → ends_from scan (drop i s) ≡ ends_from (go_on scan (get_or s i 0)) (drop (i + 1) s)
-  unfolding ends_from
-  ends_more h e = rw (drop-cons s i 0 h, e, add-one i) refl
-
-  -- it cannot go on
-  pub size_stuck : i < length s → is_stuck (go_on scan (get_or s i 0)) ≡ true → size_from scan (drop i s) ≡ 0
-  unfolding size_from
-  size_stuck h e = rw (drop-cons s i 0 h, e) refl
-
-  pub ends_stuck : i < length s → is_stuck (go_on scan (get_or s i 0)) ≡ true → ends_from scan (drop i s) ≡ may_end scan
-  unfolding ends_from
-  ends_stuck h e = rw (drop-cons s i 0 h, e) refl
-
-  -- the bytes end
-  pub size_end : length s ≤ i → size_from scan (drop i s) ≡ 0
-  unfolding size_from
-  size_end h = rw (drop_of_length-le s h) refl
-
-  pub ends_end : length s ≤ i → ends_from scan (drop i s) ≡ may_end scan
-  unfolding ends_from
-  ends_end h = rw (drop_of_length-le s h) refl
-
-pub cell_is : (s : List ℕ) (i : ℕ) (w : Bool) → i ≡ size_from Scan.Fresh s → w ≡ ends_from Scan.Fresh s → record { size = i; whole = w } ≡ cell_of s
-cell_is s i w e f = ap₂ (λ n b. record { size = n; whole = b }) e f
-
--- the bytes from one on, as the code cuts them out
-pub rest_of : (xs : List ℕ) (at : ℕ) → take (length xs - at) (drop at xs) ≡ drop at xs
-rest_of xs at = take_all (length xs - at) (drop at xs) (rw length-drop (omega arith))
-
--- ---- the break of a line
-
-module _ (xs : List ℕ) (stop : ℕ) where
-  abbrev there : Bool
-  there = eqb (get_or xs stop 0) 13 && eqb (get_or xs (stop + 1) 0) 10
-
-  pub break_end : stop ≡ length xs → (true ≡ break_at xs stop) × (stop ≡ size_by xs stop)
-  break_end e = let h : leb (length xs) stop ≡ true = le-leb (length xs) stop (omega arith) in rw h (refl, e)
-
-  pub break_none : stop < length xs → there ≡ false → false ≡ break_at xs stop
-  break_none l e = let h : leb (length xs) stop ≡ false = lt-leb (length xs) stop l in rw (h, e) refl
-
-  pub break_short : stop + 1 ≡ length xs → false ≡ break_at xs stop
-  break_short e =
-      let zero : get_or xs (stop + 1) 0 ≡ 0 = get_or-eq_default xs 0 (le_of_eq (sym e)) in
-      break_none (omega arith) (rw zero (and_false (eqb (get_or xs stop 0) 13)))
+  pub walk_on : i < length s → next ≢ Scan.Stuck → Walked s (i + 1) next
+  unfolding size_from ends_from
+  walk_on h f =
+      record { size = omega (arith, w.size, size_more); ends = sym ends_more ∙ w.ends }
     where
-      and_false : (b : Bool) → (b && false) ≡ false
-      and_false true = refl
-      and_false false = refl
+      go : (st : Scan) → st ≢ Scan.Stuck → is_stuck st ≡ false
+      go Scan.Stuck n = absurd (n refl)
+      go _ n = refl
 
-  pub break_there : stop < length xs → there ≡ true → (true ≡ break_at xs stop) × (stop + 2 ≡ size_by xs stop)
-  break_there l e = let h : leb (length xs) stop ≡ false = lt-leb (length xs) stop l in rw (h, e) (refl, refl)
+      free : is_stuck (go_on scan (get_or s i 0)) ≡ false
+      free = rw (← e) (go next f)
 
-pub no_comma : (xs : List ℕ) (at : ℕ) → length xs ≤ at → false ≡ eqb (get_or xs at 0) 44
-no_comma xs at h = let zero : get_or xs at 0 ≡ 0 = get_or-eq_default xs 0 h in rw zero refl
+      size_more : size_from scan (drop i s) ≡ 1 + size_from next (drop (i + 1) s)
+      size_more = rw (drop-cons s i 0 h, free, add-one i, ← e) refl
 
--- ---- what stands between the quotes
+      ends_more : ends_from scan (drop i s) ≡ ends_from next (drop (i + 1) s)
+      ends_more = rw (drop-cons s i 0 h, free, add-one i, ← e) refl
 
-pub inner_none : (raw : List ℕ) → length raw ≡ 0 → raw ≡ inner_of raw
-inner_none [] h = refl
-inner_none (b ∷ bs) h = absurd (omega arith)
+  -- the field goes no further
+  pub walk_stops : i < length s → next ≡ Scan.Stuck → (whole : Bool) → whole ≡ may_end scan → record { size = i; whole = whole } ≡ cell_of s
+  unfolding size_from ends_from
+  walk_stops h f whole k =
+      ap₂ (λ n b. record { size = n; whole = b }) (omega (arith, w.size, size_stuck)) (k ∙ sym ends_stuck ∙ w.ends)
+    where
+      stuck : is_stuck (go_on scan (get_or s i 0)) ≡ true
+      stuck = rw (← e, f) refl
 
-pub inner_plain : (raw : List ℕ) → (get_or raw 0 0 ≡ 34 → ⊥) → raw ≡ inner_of raw
-inner_plain raw e = rw (ne_eqb (get_or raw 0 0) 34 e) refl
+      size_stuck : size_from scan (drop i s) ≡ 0
+      size_stuck = rw (drop-cons s i 0 h, stuck) refl
 
-pub inner_lone : (raw : List ℕ) → get_or raw 0 0 ≡ 34 → length raw < 2 → take (0 - 0) (drop 0 raw) ≡ inner_of raw
-inner_lone raw e h = let n : length raw - 2 ≡ 0 = omega arith in rw (eq-eqb (get_or raw 0 0) 34 e, n) refl
+      ends_stuck : ends_from scan (drop i s) ≡ may_end scan
+      ends_stuck = rw (drop-cons s i 0 h, stuck) refl
 
-pub inner_quoted : (raw : List ℕ) → get_or raw 0 0 ≡ 34 → take (length raw - 1 - 1) (drop 1 raw) ≡ inner_of raw
-inner_quoted raw e = let n : length raw - 1 - 1 ≡ length raw - 2 = omega arith in rw (eq-eqb (get_or raw 0 0) 34 e, n) refl
+-- the bytes end
+pub walk_ends : (s : List ℕ) (i : ℕ) (scan : Scan) → Walked s i scan → length s ≤ i → i ≤ length s → (whole : Bool) → whole ≡ may_end scan → record { size = length s; whole = whole } ≡ cell_of s
+unfolding size_from ends_from
+walk_ends s i scan w h h' whole k =
+    ap₂ (λ n b. record { size = n; whole = b }) (omega (arith, w.size, size_end)) (k ∙ sym ends_end ∙ w.ends)
+  where
+    size_end : size_from scan (drop i s) ≡ 0
+    size_end = rw drop_of_length-le refl
 
--- ---- the fields of a line
-
-module _ (xs : List ℕ) (at : ℕ) where
-  pub right_more : (n : ℕ) → 0 < n
-      → fields_right n xs at ≡ ((cell_of (drop at xs)).whole && eqb (get_or xs (stop_from xs at) 0) 44 && fields_right (n - 1) xs (stop_from xs at + 1))
-  unfolding fields_right
-  right_more zero h = absurd (omega arith)
-  right_more (suc n) h = let e : suc n - 1 ≡ n = omega arith in rw e refl
-
-  pub stop_more : (n : ℕ) → 0 < n → last_stop n xs at ≡ last_stop (n - 1) xs (stop_from xs at + 1)
-  unfolding last_stop
-  stop_more zero h = absurd (omega arith)
-  stop_more (suc n) h = let e : suc n - 1 ≡ n = omega arith in rw e refl
-
-  pub right_last : (n : ℕ) → n ≤ 0 → fields_right n xs at ≡ ((cell_of (drop at xs)).whole && break_at xs (stop_from xs at))
-  unfolding fields_right
-  right_last zero h = refl
-  right_last (suc n) h = absurd (omega arith)
-
-  pub stop_last : (n : ℕ) → n ≤ 0 → last_stop n xs at ≡ stop_from xs at
-  unfolding last_stop
-  stop_last zero h = refl
-  stop_last (suc n) h = absurd (omega arith)
-
--- one field of them, as the code sees it
-module _ (xs : List ℕ) (at n : ℕ) (c : Cell) (e : c ≡ cell_of (drop at xs)) where
-  whole_is : (cell_of (drop at xs)).whole ≡ c.whole
-  whole_is = sym (ap (λ x. x.whole) e)
-
-  stop_is : stop_from xs at ≡ at + c.size
-  stop_is = sym (ap (λ x. at + x.size) e)
-
-  pub six_open : 0 < n → c.whole ≡ false → false ≡ fields_right n xs at
-  six_open h w = sym (right_more xs at n h ∙ rw (whole_is ∙ w) refl)
-
-  pub six_apart : 0 < n → c.whole ≡ true → eqb (get_or xs (at + c.size) 0) 44 ≡ false → false ≡ fields_right n xs at
-  six_apart h w m = sym (right_more xs at n h ∙ rw (whole_is ∙ w, ap (λ k. eqb (get_or xs k 0) 44) stop_is ∙ m) refl)
-
-  pub six_on : 0 < n → c.whole ≡ true → eqb (get_or xs (at + c.size) 0) 44 ≡ true → fields_right (n - 1) xs (at + c.size + 1) ≡ fields_right n xs at
-  six_on h w m =
-      ap (λ k. fields_right (n - 1) xs (k + 1)) (sym stop_is)
-      ∙ sym (right_more xs at n h ∙ rw (whole_is ∙ w, ap (λ k. eqb (get_or xs k 0) 44) stop_is ∙ m) refl)
-
-  pub stop_on : 0 < n → last_stop (n - 1) xs (at + c.size + 1) ≡ last_stop n xs at
-  stop_on h = ap (λ k. last_stop (n - 1) xs (k + 1)) (sym stop_is) ∙ sym (stop_more xs at n h)
-
-  pub six_last_open : n ≤ 0 → c.whole ≡ false → false ≡ fields_right n xs at
-  six_last_open h w = sym (right_last xs at n h ∙ rw (whole_is ∙ w) refl)
-
-  pub six_end : n ≤ 0 → c.whole ≡ true → break_at xs (at + c.size) ≡ fields_right n xs at
-  six_end h w = ap (break_at xs) (sym stop_is) ∙ sym (right_last xs at n h ∙ rw (whole_is ∙ w) refl)
-
-  pub stop_end : n ≤ 0 → at + c.size ≡ last_stop n xs at
-  stop_end h = sym (stop_last xs at n h ∙ stop_is)
+    ends_end : ends_from scan (drop i s) ≡ may_end scan
+    ends_end = rw drop_of_length-le refl
 
 -- ---- a text
+
+pub text_short : (second : Bool) (s : List ℕ) → length (undoubled second s) ≤ length s
+unfolding undoubled
+text_short second [] = omega arith
+text_short true (b ∷ bs) = omega (arith, text_short false bs)
+text_short false (b ∷ bs) = omega (arith, text_short (eqb b 34) bs)
 
 -- behind the first of two quotes the second is passed over
 second_quote : (bs : List ℕ) → undoubled true bs ≡ undoubled false (drop 1 bs)
@@ -158,73 +80,181 @@ unfolding undoubled
 second_quote [] = refl
 second_quote (b ∷ bs) = refl
 
-module _ (s : List ℕ) (i : ℕ) where
-  pub text_next : i < length s → undoubled false (drop i s) ≡ get_or s i 0 ∷ undoubled (eqb (get_or s i 0) 34) (drop (i + 1) s)
-  unfolding undoubled
-  text_next h = rw (drop-cons s i 0 h, add-one i) refl
+pub text_end : (s : List ℕ) → length s < 1 → undoubled false s ≡ []
+unfolding undoubled
+text_end [] h = refl
+text_end (b ∷ bs) h = absurd (omega arith)
 
-  pub text_end : length s ≤ i → undoubled false (drop i s) ≡ []
-  unfolding undoubled
-  text_end h = rw (drop_of_length-le s h) refl
+pub text_quote : (s : List ℕ) → 2 ≤ length s → get_or s 0 0 ≡ 34 → undoubled false s ≡ 34 ∷ undoubled false (take (length s - 2) (drop 2 s))
+unfolding undoubled
+text_quote [] h e = absurd (omega arith)
+text_quote (b ∷ []) h e = absurd (omega arith)
+text_quote (b ∷ c ∷ bs) h e = rw (take_rest, eq-eqb b 34 e, e) (ap (λ x. 34 ∷ x) (second_quote (c ∷ bs)))
 
-  pub byte_there : i < length s → get_or s i 0 ≡ get_or (undoubled false (drop i s)) 0 32
-  byte_there h = sym (ap (λ l. get_or l 0 32) (text_next h))
+pub text_plain : (s : List ℕ) → 1 ≤ length s → get_or s 0 0 ≢ 34 → undoubled false s ≡ get_or s 0 0 ∷ undoubled false (take (length s - 1) (drop 1 s))
+unfolding undoubled
+text_plain [] h e = absurd (omega arith)
+text_plain (b ∷ bs) h e = rw (take_rest, ne_eqb b 34 e) refl
 
-  pub byte_none : length s ≤ i → 32 ≡ get_or (undoubled false (drop i s)) 0 32
-  byte_none h = sym (ap (λ l. get_or l 0 32) (text_end h))
+pub text_last : (s : List ℕ) → length s ≡ 1 → undoubled false s ≡ get_or s 0 0 ∷ undoubled false (take (length s - 1) (drop 1 s))
+unfolding undoubled
+text_last [] h = absurd (omega arith)
+text_last (b ∷ []) h = refl
+text_last (b ∷ c ∷ bs) h = absurd (omega arith)
 
-  -- where the next byte begins
-  pub past_none : length s ≤ i → undoubled false (drop i s) ≡ drop 1 (undoubled false (drop i s))
-  past_none h = text_end h ∙ sym (ap (drop 1) (text_end h))
-
-  pub past_plain : i < length s → (get_or s i 0 ≡ 34 → ⊥) → undoubled false (drop (i + 1) s) ≡ drop 1 (undoubled false (drop i s))
-  past_plain h e = sym (ap (drop 1) (text_next h) ∙ ap (λ b. undoubled b (drop (i + 1) s)) (ne_eqb (get_or s i 0) 34 e))
-
-  pub past_quote : i < length s → get_or s i 0 ≡ 34 → undoubled false (drop (i + 2) s) ≡ drop 1 (undoubled false (drop i s))
-  past_quote h e =
-      let n : i + 1 + 1 ≡ i + 2 = omega arith in
-      sym (ap (drop 1) (text_next h) ∙ ap (λ b. undoubled b (drop (i + 1) s)) (eq-eqb (get_or s i 0) 34 e)
-      ∙ second_quote (drop (i + 1) s) ∙ ap (undoubled false) (drop-drop 1 (i + 1) s ∙ ap (λ k. drop k s) n))
-
-  pub past_last : i + 1 ≡ length s → get_or s i 0 ≡ 34 → undoubled false (drop (i + 1) s) ≡ drop 1 (undoubled false (drop i s))
-  past_last h e =
-      let n : length s ≤ i + 1 = omega arith in
-      let m : length s ≤ i + 2 = omega arith in
-      ap (undoubled false) (drop_of_length-le s n ∙ sym (drop_of_length-le s m)) ∙ past_quote (omega arith) e
-
--- a text has no more bytes than stand between the quotes
-pub text_some : (s : List ℕ) (i : ℕ) → i < length s → 1 ≤ length (undoubled false (drop i s))
-text_some s i h = omega (arith, ap length (text_next s i h))
+pub ruleset text_bytes = (text_end, text_quote, text_plain, text_last)
 
 -- ---- a text with blanks behind it
 
-fill_some : (n : ℕ) (p : List ℕ) → length p ≤ suc n → filled_to (suc n) p ≡ get_or p 0 32 ∷ filled_to n (drop 1 p)
-fill_some n [] h = let e : suc n - 0 ≡ suc (n - 0) = omega arith in ap (λ k. replicate k 32) e
-fill_some n (b ∷ bs) h =
-    let e : suc n - suc (length bs) ≡ n - length bs = omega arith in
-    ap (λ k. b ∷ (bs ++ replicate k 32)) e
+-- i bytes are written, and p is what is left of the whole text
+pub record Filled (to p text : List ℕ) (i : ℕ) : Type 0 where
+  pub room : i + length p ≤ length to
+  pub put : take i to ++ filled_to (length to - i) p ≡ filled_to (length to) text
 
--- one byte written: b is the next of it, and q what is behind that
-pub fill_next : (to : List ℕ) (w j : ℕ) (p q : List ℕ) (b : ℕ) → j < w → length p ≤ w - j → b ≡ get_or p 0 32 → q ≡ drop 1 p
-    → sets (set to j b) (j + 1) (filled_to (w - (j + 1)) q) ≡ sets to j (filled_to (w - j) p)
-fill_next to w j p q b h l e f =
-    let n : w - j ≡ suc (w - (j + 1)) = omega arith in
-    ap (λ x. sets (set to j x) (j + 1) (filled_to (w - (j + 1)) q)) e
-    ∙ ap (λ x. sets (set to j (get_or p 0 32)) (j + 1) (filled_to (w - (j + 1)) x)) f
-    ∙ ap (λ k. sets (set to j (get_or p 0 32)) k (filled_to (w - (j + 1)) (drop 1 p))) (add-one j)
-    ∙ sym (ap (sets to j) (ap (λ k. filled_to k p) n ∙ fill_some (w - (j + 1)) p (omega arith)))
+-- one byte more: r is what came next of p, and q what is left of it
+pub fill_on : (to p q text : List ℕ) (i b : ℕ) (r : Option ℕ) → Filled to p text i → i < length to → b ≡ unwrap_or r 32
+    → MatchOption r ((p ≡ []) × (q ≡ [])) (λ x. p ≡ x ∷ q) → Filled (set to i b) q text (i + 1)
+fill_on to p q text i b r f h e m =
+    record {
+      room = rw length-set (room r m);
+      put = rw (written, length-set) (append_assoc (take i to) (b ∷ []) (filled_to (length to - (i + 1)) q) ∙ ap (λ x. take i to ++ x) (next r e m) ∙ f.put);
+    }
+  where
+    n : ℕ
+    n = length to - (i + 1)
 
-pub fill_less : (w j : ℕ) (p q : List ℕ) → j < w → length p ≤ w - j → q ≡ drop 1 p → length q ≤ w - (j + 1)
-fill_less w j p q h l e = rw (e, length-drop) (omega arith)
+    written : take (i + 1) (set to i b) ≡ take i to ++ b ∷ []
+    written = take-set_at to i (i + 1) b refl h
 
-pub fill_done : (to : List ℕ) (w j : ℕ) (p : List ℕ) → w ≤ j → length p ≤ w - j → to ≡ sets to j (filled_to (w - j) p)
-fill_done to w j [] h l = let z : w - j ≡ 0 = omega arith in rw z refl
-fill_done to w j (b ∷ bs) h l = absurd (omega arith)
+    room : (r : Option ℕ) → MatchOption r ((p ≡ []) × (q ≡ [])) (λ x. p ≡ x ∷ q) → i + 1 + length q ≤ length to
+    room None m = rw m.1 (omega arith)
+    room (Some x) m = omega (arith, f.room, ap length m)
 
-pub length_filled : (w : ℕ) (p : List ℕ) → length p ≤ w → length (filled_to w p) ≡ w
-length_filled w p h = length-append p (replicate (w - length p) 32) ∙ rw length-replicate (omega arith)
+    blanks : ◌≡◌ {A = List ℕ} (replicate (length to - i - 0) 32) (32 ∷ replicate (n - 0) 32)
+    blanks = let k : length to - i - 0 ≡ suc (n - 0) = omega arith in rw k refl
 
-pub fill_first : (to p : List ℕ) → length p ≤ length to → sets to 0 (filled_to (length to - 0) p) ≡ filled_to (length to) p
-fill_first to p h =
-    let n : length to - 0 ≡ length to = omega arith in
-    ap (λ k. sets to 0 (filled_to k p)) n ∙ sets_whole to (filled_to (length to) p) (length_filled (length to) p h)
+    next : (r : Option ℕ) → b ≡ unwrap_or r 32 → MatchOption r ((p ≡ []) × (q ≡ [])) (λ x. p ≡ x ∷ q) → b ∷ filled_to n q ≡ filled_to (length to - i) p
+    next None e m = rw (e, m.0, m.1) (sym blanks)
+    next (Some x) e m =
+        let k : length to - i - suc (length q) ≡ n - length q = omega arith in
+        rw (e, m, k) refl
+
+-- ---- the fields of a line
+
+-- a comma at a byte, as the code looks for it
+comma_at : (xs : List ℕ) (i : ℕ) → starts_with eqb (take (length xs - i) (drop i xs)) (44 ∷ []) ≡ eqb (get_or xs i 0) 44
+comma_at xs i = ap (λ ys. starts_with eqb ys (44 ∷ [])) (take_rest xs i) ∙ go (drop i xs) ∙ ap (λ b. eqb b 44) (rw (get_or-drop, add-zero) refl)
+  where
+    go : (ys : List ℕ) → starts_with eqb ys (44 ∷ []) ≡ eqb (get_or ys 0 0) 44
+    go [] = refl
+    go (y ∷ ys) = grind (arith, nat_tests)
+
+-- one field, with n more behind it, and the last
+module _ (n : ℕ) (xs : List ℕ) (at : ℕ) where
+  open_field : (cell_of (drop at xs)).whole ≡ false → fields_right n xs at ≡ false
+  unfolding fields_right
+  open_field w = go n
+    where
+      go : (n : ℕ) → fields_right n xs at ≡ false
+      go zero = rw w refl
+      go (suc n) = rw w refl
+
+  apart_field : eqb (get_or xs (stop_from xs at) 0) 44 ≡ false → fields_right (suc n) xs at ≡ false
+  unfolding fields_right
+  apart_field m = rw m (go (cell_of (drop at xs)).whole)
+    where
+      go : (b : Bool) → (b && false && fields_right n xs (stop_from xs at + 1)) ≡ false
+      go true = refl
+      go false = refl
+
+  right_field : (cell_of (drop at xs)).whole ≡ true → eqb (get_or xs (stop_from xs at) 0) 44 ≡ true
+      → fields_right (suc n) xs at ≡ fields_right n xs (stop_from xs at + 1)
+  unfolding fields_right
+  right_field w m = rw (w, m) refl
+
+  stop_field : last_stop (suc n) xs at ≡ last_stop n xs (stop_from xs at + 1)
+  unfolding last_stop
+  stop_field = refl
+
+  text_field : texts_from (suc n) xs at ≡ text_from xs at ∷ texts_from n xs (stop_from xs at + 1)
+  unfolding texts_from
+  text_field = refl
+
+last_right : (xs : List ℕ) (at : ℕ) → (cell_of (drop at xs)).whole ≡ true → fields_right 0 xs at ≡ break_at xs (stop_from xs at)
+unfolding fields_right
+last_right xs at w = rw w refl
+
+last_stop_is : (xs : List ℕ) (at : ℕ) → last_stop 0 xs at ≡ stop_from xs at
+unfolding last_stop
+last_stop_is xs at = refl
+
+last_text : (xs : List ℕ) (at : ℕ) → texts_from 0 xs at ≡ text_from xs at ∷ []
+unfolding texts_from
+last_text xs at = refl
+
+-- the texts of fields
+abbrev pub texts_in : List (Bor (List ℕ)) → List (List ℕ)
+texts_in fields = map (λ field. undoubled false field.now) fields
+
+texts_set : (fields : List (Bor (List ℕ))) (k : ℕ) (field : Bor (List ℕ)) → k < length fields
+    → take (k + 1) (texts_in (set fields k field)) ≡ take k (texts_in fields) ++ undoubled false field.now ∷ []
+texts_set fields k field h =
+    rw map-set (take-set_at (texts_in fields) k (k + 1) (undoubled false field.now) refl (rw length-map h))
+
+-- k fields of a line are found, and the next one begins at a byte
+pub record Found (xs : List ℕ) (fields : List (Bor (List ℕ))) (at k : ℕ) : Type 0 where
+  pub inside : at ≤ length xs
+  pub many : length fields ≡ 6
+  pub right : fields_right (5 - k) xs at ≡ six_fields xs
+  pub stop : last_stop (5 - k) xs at ≡ last_stop 5 xs 0
+  pub texts : take k (texts_in fields) ++ texts_from (5 - k) xs at ≡ six_texts xs
+
+module _ (xs : List ℕ) (fields : List (Bor (List ℕ))) (at k : ℕ) (f : Found xs fields at k) where
+  pub found_open : false ≡ (cell_of (drop at xs)).whole → false ≡ six_fields xs
+  found_open w = sym (open_field (5 - k) xs at (sym w)) ∙ f.right
+
+  module _ (stop : ℕ) (e : stop ≡ stop_from xs at) where
+    comma : (b : Bool) → starts_with eqb (take (length xs - stop) (drop stop xs)) (44 ∷ []) ≡ b → eqb (get_or xs (stop_from xs at) 0) 44 ≡ b
+    comma b m = ap (λ i. eqb (get_or xs i 0) 44) (sym e) ∙ sym (comma_at xs stop) ∙ m
+
+    pub found_apart : k < 5 → starts_with eqb (take (length xs - stop) (drop stop xs)) (44 ∷ []) ≡ false → false ≡ six_fields xs
+    found_apart h m =
+        let e5 : suc (5 - (k + 1)) ≡ 5 - k = omega arith in
+        sym (apart_field (5 - (k + 1)) xs at (comma false m)) ∙ ap (λ n. fields_right n xs at) e5 ∙ f.right
+
+    pub found_on : k < 5 → starts_with eqb (take (length xs - stop) (drop stop xs)) (44 ∷ []) ≡ true → true ≡ (cell_of (drop at xs)).whole → stop < length xs
+        → (field : Bor (List ℕ)) → undoubled false field.now ≡ text_from xs at → Found xs (set fields k field) (stop + 1) (k + 1)
+    found_on h m w l field t =
+        record {
+          inside = omega arith;
+          many = length-set fields k field ∙ f.many;
+          right = ap (λ i. fields_right n xs (i + 1)) e ∙ sym (right_field n xs at (sym w) (comma true m)) ∙ ap (λ n. fields_right n xs at) e5 ∙ f.right;
+          stop = ap (λ i. last_stop n xs (i + 1)) e ∙ sym (stop_field n xs at) ∙ ap (λ n. last_stop n xs at) e5 ∙ f.stop;
+          texts =
+              ap (λ p. p ++ texts_from n xs (stop + 1)) (texts_set fields k field (omega (arith, f.many)))
+              ∙ append_assoc (take k (texts_in fields)) (undoubled false field.now ∷ []) (texts_from n xs (stop + 1))
+              ∙ ap (λ p. take k (texts_in fields) ++ p) (ap₂ (λ p i. p ∷ texts_from n xs (i + 1)) t e ∙ sym (text_field n xs at) ∙ ap (λ n. texts_from n xs at) e5)
+              ∙ f.texts;
+        }
+      where
+        n : ℕ
+        n = 5 - (k + 1)
+
+        e5 : suc n ≡ 5 - k
+        e5 = omega arith
+
+    -- the last field
+    pub found_stands : k ≡ 5 → true ≡ (cell_of (drop at xs)).whole → break_at xs stop ≡ six_fields xs
+    found_stands h w = ap (break_at xs) e ∙ sym (last_right xs at (sym w)) ∙ ap (λ n. fields_right (5 - n) xs at) (sym h) ∙ f.right
+
+    pub found_size : k ≡ 5 → size_by xs stop ≡ line_size xs
+    found_size h = ap (size_by xs) (e ∙ sym (last_stop_is xs at) ∙ ap (λ n. last_stop (5 - n) xs at) (sym h) ∙ f.stop)
+
+  pub found_texts : k ≡ 5 → (field : Bor (List ℕ)) → undoubled false field.now ≡ text_from xs at → texts_in (set fields 5 field) ≡ six_texts xs
+  found_texts h field t =
+      sym (take_all 6 (texts_in (set fields 5 field)) (rw (length-map, length-set) (omega (arith, f.many))))
+      ∙ texts_set fields 5 field (omega (arith, f.many))
+      ∙ ap (λ p. take 5 (texts_in fields) ++ p ∷ []) t
+      ∙ ap (λ p. take 5 (texts_in fields) ++ p) (sym (last_text xs at))
+      ∙ ap (λ n. take n (texts_in fields) ++ texts_from (5 - n) xs at) (sym h)
+      ∙ f.texts

@@ -1,116 +1,65 @@
 -- Amounts: the dollars of any number of digits, and that a text with a quote is none.
 -- Assumes nothing.
-use Prim.Native.Nat.{ℕ, suc, ◌+◌, ◌-◌, ◌*◌, ◌^◌, ◌<◌, ◌≤◌}
-use native.Mathlib.Omega.{arith}
-use mathlib.Core.Path.{◌≡◌, refl, sym, ap, ◌∙◌}
-use mathlib.Core.Bool.{Bool, true, false, ◌&&◌, not, false≢true}
-use mathlib.Core.List.{List, [], ◌∷◌}
-use lib.Dec.{leb, eqb, lit≤}
-use lib.ListN.{length, get_or, take, drop, length-drop}
-use lib.Seq.{drop-cons}
-use borrow.Author.Tests.{eqb-true, eq-eqb, ne_eqb, leb-true, leb-false, le-leb, lt-leb, not-true}
-use Rattle.text.specs.Decimal.{every, is_digit, digits, digit_of, value_from, value}
-use Rattle.text.proofs.DecimalLaws.{and_both, both_and, every_cut, digit_range, value_next, value_end, value_lt}
+use Rattle.std.proofs.Common.{◌≡◌, ℕ, suc, ◌+◌, ◌-◌, ◌*◌, ◌^◌, ◌≤◌, min, Bool, true, false, not, List, [], ◌∷◌, ◌++◌, leb, eqb, ◌==◌, length, get_or, take, drop, refl, sym, ap, ◌∙◌, arith, append_assoc, length-append, length-drop, drop-cons}
+use Rattle.std.proofs.lemmas.Bool.{false≢true}
+use Rattle.std.proofs.lemmas.List.{take_at, drop_at, get_or_at, take-append-drop}
+use Rattle.std.proofs.lemmas.Bool.Decides.{nat_tests}
+use borrow.Author.Tests.{eqb-true, ne_eqb, leb-true, le-leb, not-true}
+use Rattle.text.specs.Decimal.{every, is_digit, digits, value}
+use Rattle.text.proofs.DecimalLaws.{and_both, both_and, every_cut, digit_range, value_lt}
 use Rattle.csv_cells.specs.Cells.{undoubled}
 use Rattle.csv_entry.specs.Entries.{amount_form, cents_in, amount_right}
 
--- ---- dollars
+-- ---- the amount, by its parts
 
-value_least : (n : ℕ) (xs : List ℕ) → n ≤ value_from n xs
-unfolding value_from
-value_least n [] = omega arith
-value_least n (b ∷ bs) = omega (arith, value_least (n * 10 + digit_of b) bs)
+module _ (dollars cents : List ℕ) (two : length cents ≡ 2) where
+  abbrev whole : ℕ → List ℕ
+  whole point = dollars ++ point ∷ cents
 
--- n is the number of the digits before i, or both are too large
-pub record Dollars (s : List ℕ) (i n : ℕ) : Type 0 where
-  pub small : n ≤ 999999999
-  pub exact : n ≤ 99999999 → value_from n (drop i s) ≡ value s
-  pub over : 99999999 < n → 99999999 < value s
+  long : (point : ℕ) → length (whole point) ≡ length dollars + 3
+  long point = omega (arith, length-append dollars (point ∷ cents))
 
-pub dollars_first : (s : List ℕ) → Dollars s 0 0
-dollars_first s = record { small = lit≤ tt; exact = λ x. refl; over = λ x. absurd (omega arith) }
+  front_is : (point : ℕ) → take (length (whole point) - 3) (whole point) ≡ dollars
+  front_is point = take_at dollars (point ∷ cents) (length (whole point) - 3) (omega (arith, long point))
 
-pub dollars_next : (s : List ℕ) (i n m : ℕ) → i < length s → Dollars s i n → m ≤ 999999999 → (n ≤ 99999999 → m ≡ n * 10 + digit_of (get_or s i 0)) → (99999999 < n → m ≡ n) → Dollars s (i + 1) m
-dollars_next s i n m h d l f g = go (leb n 99999999) refl
+  point_is : (point : ℕ) → get_or (whole point) (length (whole point) - 3) 0 ≡ point
+  point_is point = get_or_at dollars point cents 0 (length (whole point) - 3) (omega (arith, long point))
+
+  back_is : (point : ℕ) → drop (length (whole point) - 2) (whole point) ≡ cents
+  back_is point =
+      ap (drop (length (whole point) - 2)) (sym (append_assoc dollars (point ∷ []) cents))
+      ∙ drop_at (dollars ++ point ∷ []) cents (length (whole point) - 2) (omega (arith, long point, length-append dollars (point ∷ [])))
+
+  cents_small : value cents ≤ 99
+  cents_small = omega (arith, ap (λ n. 10 ^ n) two, value_lt cents)
+
+-- as the code has cut them out and tested them: n is what it takes for the dollars
+pub record Parted (p dollars cents : List ℕ) (n : ℕ) : Type 0 where
+  pub right : true ≡ amount_right p
+  pub sum : n * 100 + value cents ≡ cents_in p
+  pub small : n * 100 + value cents ≤ 9999999999
+
+pub parted : (p front dollars cents : List ℕ) (point n : ℕ) → front ≡ take (length p - 2) p → cents ≡ drop (length p - 2) p → length front + 2 ≡ length p
+    → front ≡ dollars ++ point ∷ [] → point ≡ 46 → (length dollars == 0) ≡ false → digits dollars ≡ true → digits cents ≡ true
+    → n ≡ min (value dollars) (2 ^ 64 - 1) → n ≤ 99999999 → Parted p dollars cents n
+parted p front dollars cents point n f c l d e some a b m h = go p (sym (take-append-drop (length p - 2) p) ∙ rw (← f, ← c, d, e) (append_assoc dollars (46 ∷ []) cents))
   where
-    go : (b : Bool) → leb n 99999999 ≡ b → Dollars s (i + 1) m
-    go true e =
-        let few = leb-true n 99999999 e in
-        let same : value_from m (drop (i + 1) s) ≡ value s = ap (λ x. value_from x (drop (i + 1) s)) (f few) ∙ sym (value_next n s i h) ∙ d.exact few in
-        record { small = l; exact = λ x. same; over = λ x. omega (arith, value_least m (drop (i + 1) s)) }
-    go false e =
-        let many : 99999999 < n = leb-false n 99999999 e in
-        record { small = l; exact = λ x. absurd (omega (arith, g many)); over = λ x. d.over many }
+    two : length cents ≡ 2
+    two = rw (c, length-drop) (omega arith)
 
-pub dollars_end : (s : List ℕ) (i n : ℕ) → length s ≤ i → Dollars s i n → (value s ≤ 99999999 → n ≡ value s) × (99999999 < value s → 99999999 < n)
-dollars_end s i n h d = go (leb n 99999999) refl
-  where
-    go : (b : Bool) → leb n 99999999 ≡ b → (value s ≤ 99999999 → n ≡ value s) × (99999999 < value s → 99999999 < n)
-    go true e =
-        let same : n ≡ value s = sym (value_end n s i h) ∙ d.exact (leb-true n 99999999 e) in
-        (λ x. same, λ x. omega arith)
-    go false e =
-        let many : 99999999 < n = leb-false n 99999999 e in
-        (λ x. absurd (omega (arith, d.over many)), λ x. many)
+    v : value dollars ≤ 99999999
+    v = omega arith
 
--- ---- the amount, as the code tests it
+    k : n ≡ value dollars
+    k = omega arith
 
-module _ (p : List ℕ) (h : 4 ≤ length p) where
-  pub point_at : drop (length p - 3) p ≡ get_or p (length p - 3) 0 ∷ drop (length p - 2) p
-  point_at =
-      let n : suc (length p - 3) ≡ length p - 2 = omega arith in
-      drop-cons p (length p - 3) 0 (omega arith) ∙ ap (λ k. get_or p (length p - 3) 0 ∷ drop k p) n
-
-  pub cents_small : value (drop (length p - 2) p) ≤ 99
-  cents_small = let two : length (drop (length p - 2) p) ≡ 2 = rw length-drop (omega arith) in omega (arith, ap (λ n. 10 ^ n) two, value_lt (drop (length p - 2) p))
-
--- its parts, as the code cuts them out
-pub front_cut : (p : List ℕ) → take (length p - 3 - 0) (drop 0 p) ≡ take (length p - 3) p
-front_cut p = let n : length p - 3 - 0 ≡ length p - 3 = omega arith in ap (λ k. take k p) n
-
-pub amount_short : (p : List ℕ) → length p < 4 → false ≡ amount_right p
-amount_short p h = rw (lt-leb 4 (length p) h) refl
-
-pub amount_front : (p : List ℕ) → digits (take (length p - 3) p) ≡ false → false ≡ amount_right p
-amount_front p e = go (leb 4 (length p))
-  where
-    go : (b : Bool) → false ≡ ((b && digits (take (length p - 3) p) && eqb (get_or p (length p - 3) 0) 46 && digits (drop (length p - 2) p)) && leb (cents_in p) 9999999999)
-    go true = rw e refl
-    go false = refl
-
-pub amount_point : (p : List ℕ) → 4 ≤ length p → digits (take (length p - 3) p) ≡ true → (get_or p (length p - 3) 0 ≡ 46 → ⊥) → false ≡ amount_right p
-amount_point p h d e = rw (le-leb 4 (length p) h, d, ne_eqb (get_or p (length p - 3) 0) 46 e) refl
-
-pub amount_back : (p : List ℕ) → 4 ≤ length p → digits (take (length p - 3) p) ≡ true → get_or p (length p - 3) 0 ≡ 46 → digits (drop (length p - 2) p) ≡ false → false ≡ amount_right p
-amount_back p h d e b = rw (le-leb 4 (length p) h, d, eq-eqb (get_or p (length p - 3) 0) 46 e, b) refl
-
-pub amount_over : (p : List ℕ) → 4 ≤ length p → digits (take (length p - 3) p) ≡ true → get_or p (length p - 3) 0 ≡ 46 → digits (drop (length p - 2) p) ≡ true → 99999999 < value (take (length p - 3) p) → false ≡ amount_right p
-amount_over p h d e b v =
-    let many : leb (cents_in p) 9999999999 ≡ false = lt-leb (cents_in p) 9999999999 (omega arith) in
-    rw (le-leb 4 (length p) h, d, eq-eqb (get_or p (length p - 3) 0) 46 e, b, many) refl
-
-pub amount_fits : (p : List ℕ) → 4 ≤ length p → digits (take (length p - 3) p) ≡ true → get_or p (length p - 3) 0 ≡ 46 → digits (drop (length p - 2) p) ≡ true → value (take (length p - 3) p) ≤ 99999999 → true ≡ amount_right p
-amount_fits p h d e b v =
-    let few : leb (cents_in p) 9999999999 ≡ true = le-leb (cents_in p) 9999999999 (omega (arith, cents_small p h)) in
-    rw (le-leb 4 (length p) h, d, eq-eqb (get_or p (length p - 3) 0) 46 e, b, few) refl
-
--- by what the capped dollars say of the true ones
-pub over_by : (v w r : ℕ) → w ≡ v → (w ≤ 99999999 → r ≡ w) → 99999999 < r → 99999999 < v
-over_by v w r e f h = go (leb w 99999999) refl
-  where
-    go : (b : Bool) → leb w 99999999 ≡ b → 99999999 < v
-    go true g = let few = leb-true w 99999999 g in absurd (omega (arith, f few, few))
-    go false g = omega (arith, leb-false w 99999999 g)
-
-pub within_by : (v w r : ℕ) → w ≡ v → (w ≤ 99999999 → r ≡ w) → (99999999 < w → 99999999 < r) → r ≤ 99999999 → (r ≡ v) × (v ≤ 99999999)
-within_by v w r e f k h = go (leb w 99999999) refl
-  where
-    go : (b : Bool) → leb w 99999999 ≡ b → (r ≡ v) × (v ≤ 99999999)
-    go true g = let few = leb-true w 99999999 g in (f few ∙ e, omega arith)
-    go false g = absurd (omega (arith, k (leb-false w 99999999 g)))
-
-pub cents_by_lem : (p : List ℕ) (dollars cents : ℕ) → dollars ≡ value (take (length p - 3) p) → cents ≡ value (drop (length p - 2) p) → dollars * 100 + cents ≡ cents_in p
-cents_by_lem p dollars cents e f = rw (e, f) refl
+    go : (p : List ℕ) → p ≡ dollars ++ 46 ∷ cents → Parted p dollars cents n
+    go p w =
+        let four : leb 4 (length (dollars ++ 46 ∷ cents)) ≡ true = let g = long dollars cents two 46 in grind (arith, nat_tests) in
+        let form : amount_form p ≡ true = rw (w, four, front_is dollars cents two 46, point_is dollars cents two 46, back_is dollars cents two 46, a, b) refl in
+        let sum : n * 100 + value cents ≡ cents_in p = rw (w, front_is dollars cents two 46, back_is dollars cents two 46, k) refl in
+        let small : n * 100 + value cents ≤ 9999999999 = omega (arith, cents_small dollars cents two) in
+        record { right = sym (both_and form (le-leb (cents_in p) 9999999999 (omega arith))); sum = sum; small = small }
 
 -- ---- a text with a quote is no amount
 
@@ -125,6 +74,11 @@ plain_digits (b ∷ bs) e =
     let far : eqb b 34 ≡ false = ne_eqb b 34 (λ z. omega (arith, (digit_range b both.0).0)) in
     let first : not (eqb b 34) ≡ true = rw far refl in
     both_and first (plain_digits bs both.1)
+
+point_at : (p : List ℕ) → 4 ≤ length p → drop (length p - 3) p ≡ get_or p (length p - 3) 0 ∷ drop (length p - 2) p
+point_at p h =
+    let n : suc (length p - 3) ≡ length p - 2 = omega arith in
+    drop-cons p (length p - 3) 0 (omega arith) ∙ ap (λ k. get_or p (length p - 3) 0 ∷ drop k p) n
 
 plain_form : (p : List ℕ) → amount_form p ≡ true → no_quote p ≡ true
 unfolding every

@@ -1,94 +1,80 @@
 -- The walk along the six fields of a line, and the lines one behind another.
 -- Assumes nothing.
-use Prim.Native.Nat.{ℕ, zero, suc, ◌+◌, ◌-◌, ◌<◌, ◌≤◌}
-use native.Mathlib.Nat.{zero-add}
-use native.Mathlib.Omega.{arith}
-use mathlib.Core.Path.{◌≡◌, refl, sym, ap, ◌∙◌, subst}
-use mathlib.Core.Bool.{Bool, true, false, ◌&&◌, ◌||◌}
-use mathlib.Core.List.{List, [], ◌∷◌, ◌++◌, append-nil, append_assoc}
-use lib.Dec.{leb, eqb, lit≤}
-use lib.ListN.{length, get_or, take, drop, set, replicate, length-take, length-drop, length-append, get_or-eq_default}
-use lib.Seq.{sets, sets-eq, length-sets, drop-drop}
-use borrow.Author.Tests.{leb-true, leb-false, eqb-true, eq-eqb, ne_eqb}
+use Rattle.std.proofs.Common.{◌≡◌, ℕ, zero, suc, ◌+◌, ◌-◌, ◌<◌, ◌≤◌, Bool, true, false, ◌&&◌, ◌||◌, List, [], ◌∷◌, ◌++◌, leb, eqb, Ok, Err, length, get_or, take, drop, replicate, refl, sym, ap, ◌∙◌, arith, lit≤, zero-add, add-one, append_assoc, length-drop, length-append, Bor, drop-cons, drop-drop, drop_of_length-le}
+use Rattle.std.proofs.lemmas.List.{length-replicate, take_at, drop_at, get_or-map, length-map}
+use Rattle.std.proofs.Math.ListN.{get_or-eq_default}
+use Rattle.std.proofs.Math.Seq.{length-sets}
+use Rattle.std.proofs.lemmas.List.Edits.{sets, sets-eq}
+use borrow.Rule.Slice.PartMut.{put_mid}
+use borrow.Author.Tests.{leb-true, leb-false, eqb-true}
 use Rattle.text.specs.Decimal.{pick, render}
 use Rattle.text.specs.Rows.{joined}
 use Rattle.text.proofs.DecimalLaws.{and_both, length_render}
 use Rattle.text.proofs.SetLaws.{sets_append}
 use Rattle.layout.specs.declared.Fault.{Fault}
-use Rattle.check_record.specs.declared.Verdict.{Verdict}
-use Rattle.csv_cells.specs.Cells.{cell_of, inner_of, undoubled, stop_from, text_from, break_at, fields_right, texts_from, last_stop, size_by, six_fields, six_texts, line_size, lines_from, lines_in, filled_to}
+use Rattle.check_record.specs.declared.Wrong.{Wrong}
+use Rattle.check_record.specs.Verdict.{Verdict}
+use Rattle.csv_cells.specs.Cells.{undoubled, cell_of, stop_from, break_at, fields_right, texts_from, last_stop, size_by, six_fields, six_texts, line_size, lines_from, lines_in, filled_to}
+use Rattle.csv_cells.proofs.CellLaws.{texts_in}
 use Rattle.csv_entry.specs.Entries.{amount_right, cents_in, field_wide, field_right, field_fault, try, texts_verdict, line_verdict, columns_of, all_columns, column_at, rest_of_row, row_of_line, empty_row}
-use Rattle.csv_cells.specs.declared.Cell.{Cell}
-use Rattle.csv_cells.proofs.CellLaws.{length_filled, right_more, stop_more, right_last, stop_last}
-use Rattle.csv_entry.proofs.AmountLaws.{amount_plain, amount_same}
 
--- ---- the texts of the fields
-
-module _ (xs : List ℕ) (at : ℕ) where
-  texts_more : (n : ℕ) → 0 < n → texts_from n xs at ≡ text_from xs at ∷ texts_from (n - 1) xs (stop_from xs at + 1)
-  unfolding texts_from
-  texts_more zero h = absurd (omega arith)
-  texts_more (suc n) h = let e : suc n - 1 ≡ n = omega arith in rw e refl
+-- a text with blanks behind it
+pub length_filled : (w : ℕ) (p : List ℕ) → length p ≤ w → length (filled_to w p) ≡ w
+length_filled w p h = length-append p (replicate (w - length p) 32) ∙ rw length-replicate (omega arith)
 
 -- ---- the first fault
 
-module _ (xs : List ℕ) (at k : ℕ) where
-  abbrev from : List (List ℕ)
-  from = texts_from (6 - k) xs at
+-- one field more, of those whose texts are ts
+pub verdict_at : (k : ℕ) (ts : List (List ℕ)) (i : ℕ) → i < length ts
+    → texts_verdict k (drop i ts) ≡ try (field_right k (get_or ts i [])) (field_fault k) k (texts_verdict (k + 1) (drop (i + 1) ts))
+unfolding texts_verdict
+verdict_at k ts i h = rw (drop-cons ts i [] h, add-one i) refl
 
-  abbrev behind : List (List ℕ)
-  behind = texts_from (6 - (k + 1)) xs (stop_from xs at + 1)
+pub verdict_end : (k : ℕ) (ts : List (List ℕ)) (i : ℕ) → length ts ≤ i → texts_verdict k (drop i ts) ≡ Ok tt
+unfolding texts_verdict
+verdict_end k ts i h = rw drop_of_length-le refl
 
-  texts_here : k < 6 → from ≡ text_from xs at ∷ behind
-  texts_here h = let n : 6 - k - 1 ≡ 6 - (k + 1) = omega arith in texts_more xs at (6 - k) (omega arith) ∙ ap (λ m. text_from xs at ∷ texts_from m xs (stop_from xs at + 1)) n
+-- what passes, passes its first test
+pub passed : (b : Bool) (fault : Fault) (k : ℕ) (rest : Verdict) → try b fault k rest ≡ Ok tt → (b ≡ true) × (rest ≡ Ok tt)
+passed true fault k rest e = (refl, e)
+passed false fault k rest e = cc e
 
-  pub verdict_right : k < 6 → field_right k (text_from xs at) ≡ true → texts_verdict k from ≡ texts_verdict (k + 1) behind
-  unfolding texts_verdict
-  verdict_right h e = ap (texts_verdict k) (texts_here h) ∙ rw e refl
+failed : (b : Bool) (fault : Fault) (k : ℕ) (rest : Verdict) (wrong : Wrong) → Err wrong ≡ try b fault k (Ok tt) → Err wrong ≡ try b fault k rest
+failed true fault k rest wrong e = cc e
+failed false fault k rest wrong e = e
 
-  pub verdict_wrong : k < 6 → field_right k (text_from xs at) ≡ false → texts_verdict k from ≡ Verdict.Failed (field_fault k) k
-  unfolding texts_verdict
-  verdict_wrong h e = ap (texts_verdict k) (texts_here h) ∙ rw e refl
+-- the text of a field, of those in which a line was found
+pub text_at : (fields : List (Bor (List ℕ))) (ts : List (List ℕ)) (i : ℕ) (d : Bor (List ℕ)) → texts_in fields ≡ ts → i < length ts
+    → undoubled false (get_or fields i d).now ≡ get_or ts i []
+text_at fields ts i d e h =
+    sym (get_or-map (λ field. undoubled false field.now) fields i d [] (omega (arith, ap length e, length-map fields (λ field. undoubled false field.now)))) ∙ ap (λ t. get_or t i []) e
 
-  -- a field of a line without a fault
-  pub verdict_passed : k < 6 → texts_verdict k from ≡ Verdict.Passed → (field_right k (text_from xs at) ≡ true) × (texts_verdict (k + 1) behind ≡ Verdict.Passed)
-  unfolding texts_verdict
-  verdict_passed h e = go (field_right k (text_from xs at)) (ap (texts_verdict k) (sym (texts_here h)) ∙ e)
-    where
-      go : (b : Bool) → try b (field_fault k) k (texts_verdict (k + 1) behind) ≡ Verdict.Passed → (b ≡ true) × (texts_verdict (k + 1) behind ≡ Verdict.Passed)
-      go true f = (refl, f)
-      go false f = let z : ◌≡◌ {A = ℕ} 0 1 = cc f in absurd (omega arith)
+-- the first i fields have no fault
+pub record Tested (fields : List (Bor (List ℕ))) (i : ℕ) : Type 0 where
+  pub rest : texts_verdict (i + 1) (drop i (texts_in fields)) ≡ texts_verdict 1 (texts_in fields)
 
-  -- its columns
-  pub columns_more : (row : List ℕ) → k < 6 → length (columns_of k (text_from xs at)) ≡ field_wide k → column_at k + field_wide k ≡ column_at (k + 1)
-      → sets row (column_at k) (joined (all_columns k from)) ≡ sets (sets row (column_at k) (columns_of k (text_from xs at))) (column_at (k + 1)) (joined (all_columns (k + 1) behind))
-  unfolding all_columns joined
-  columns_more row h l c =
-      ap (λ ts. sets row (column_at k) (joined (all_columns k ts))) (texts_here h)
-      ∙ sets_append row (column_at k) (columns_of k (text_from xs at)) (joined (all_columns (k + 1) behind))
-      ∙ ap (λ n. sets (sets row (column_at k) (columns_of k (text_from xs at))) n (joined (all_columns (k + 1) behind))) (ap (λ n. column_at k + n) l ∙ c)
+pub tested_first : (fields : List (Bor (List ℕ))) → Tested fields 0
+tested_first fields = record { rest = refl }
 
--- the last field
-module _ (xs : List ℕ) (at : ℕ) where
-  pub last_right : field_right 6 (text_from xs at) ≡ true → texts_verdict 6 (texts_from 0 xs at) ≡ Verdict.Passed
-  unfolding texts_verdict texts_from
-  last_right e = rw e refl
+module _ (fields : List (Bor (List ℕ))) (i : ℕ) (d : Bor (List ℕ)) (t : Tested fields i) where
+  abbrev verdict : Verdict → Verdict
+  verdict rest = try (field_right (i + 1) (undoubled false (get_or fields i d).now)) (field_fault (i + 1)) (i + 1) rest
 
-  pub last_wrong : field_right 6 (text_from xs at) ≡ false → texts_verdict 6 (texts_from 0 xs at) ≡ Verdict.Failed (field_fault 6) 6
-  unfolding texts_verdict texts_from
-  last_wrong e = rw e refl
+  step : i < length fields → verdict (texts_verdict (i + 1 + 1) (drop (i + 1) (texts_in fields))) ≡ texts_verdict 1 (texts_in fields)
+  step h =
+      let l : i < length (texts_in fields) = rw length-map h in
+      rw (text_at fields (texts_in fields) i d refl l) (sym (verdict_at (i + 1) (texts_in fields) i l) ∙ t.rest)
 
-  pub last_passed : texts_verdict 6 (texts_from 0 xs at) ≡ Verdict.Passed → field_right 6 (text_from xs at) ≡ true
-  unfolding texts_verdict texts_from
-  last_passed e = go (field_right 6 (text_from xs at)) e
-    where
-      go : (b : Bool) → try b (field_fault 6) 6 Verdict.Passed ≡ Verdict.Passed → b ≡ true
-      go true f = refl
-      go false f = let z : ◌≡◌ {A = ℕ} 0 1 = cc f in absurd (omega arith)
+  pub tested_wrong : i < length fields → (wrong : Wrong) → Err wrong ≡ verdict (Ok tt) → Err wrong ≡ texts_verdict 1 (texts_in fields)
+  tested_wrong h wrong e = failed _ (field_fault (i + 1)) (i + 1) (texts_verdict (i + 1 + 1) (drop (i + 1) (texts_in fields))) wrong e ∙ step h
 
-  pub columns_last : (row : List ℕ) → sets row (column_at 6) (joined (all_columns 6 (texts_from 0 xs at))) ≡ sets row (column_at 6) (columns_of 6 (text_from xs at))
-  unfolding all_columns joined texts_from
-  columns_last row = ap (sets row 53) (append-nil (columns_of 6 (text_from xs at)))
+  pub tested_on : i < length fields → verdict (Ok tt) ≡ Ok tt → Tested fields (i + 1)
+  tested_on h e =
+      let right = (passed _ (field_fault (i + 1)) (i + 1) (Ok tt) e).0 in
+      record { rest = rw right at (step h) }
+
+pub tested_all : (fields : List (Bor (List ℕ))) (i : ℕ) → Tested fields i → length fields ≤ i → Ok tt ≡ texts_verdict 1 (texts_in fields)
+tested_all fields i t h = sym (verdict_end (i + 1) (texts_in fields) i (rw length-map h)) ∙ t.rest
 
 -- ---- widths, by the field's number
 
@@ -108,6 +94,13 @@ column_next = by_field (λ k. column_at k + field_wide k ≡ column_at (k + 1)) 
 pub column_end : (k : ℕ) → 1 ≤ k → k ≤ 6 → column_at k + field_wide k ≤ 75
 column_end = by_field (λ k. column_at k + field_wide k ≤ 75) (lit≤ tt) (lit≤ tt) (lit≤ tt) (lit≤ tt) (lit≤ tt) (lit≤ tt)
 
+-- where the fields begin, as the code has it
+abbrev pub starts : List ℕ
+starts = 0 ∷ 2 ∷ 11 ∷ 28 ∷ 38 ∷ 53 ∷ 75 ∷ []
+
+pub width_is : (k : ℕ) → 1 ≤ k → k ≤ 6 → get_or starts k 0 - get_or starts (k - 1) 0 ≡ field_wide k
+width_is = by_field (λ k. get_or starts k 0 - get_or starts (k - 1) 0 ≡ field_wide k) refl refl refl refl refl refl
+
 -- a field that is right fills its columns
 pub columns_long : (k : ℕ) (p : List ℕ) → field_right k p ≡ true → length (columns_of k p) ≡ field_wide k
 columns_long k p e = go (eqb k 4) e
@@ -117,27 +110,23 @@ columns_long k p e = go (eqb k 4) e
     go false f = length_filled (field_wide k) p (leb-true (length p) (field_wide k) f)
 
 -- the whole row
-pub columns_all : (k : ℕ) (ps : List (List ℕ)) → texts_verdict k ps ≡ Verdict.Passed → 1 ≤ k → k + length ps ≡ 7 → column_at k + length (joined (all_columns k ps)) ≡ 75
+pub columns_all : (k : ℕ) (ps : List (List ℕ)) → texts_verdict k ps ≡ Ok tt → 1 ≤ k → k + length ps ≡ 7 → column_at k + length (joined (all_columns k ps)) ≡ 75
 unfolding texts_verdict all_columns joined
 columns_all k [] e h l = let n : k ≡ 7 = omega arith in rw n refl
 columns_all k (p ∷ ps) e h l =
-    let both = go (field_right k p) e in
+    let both = passed (field_right k p) (field_fault k) k (texts_verdict (k + 1) ps) e in
     let rest = columns_all (k + 1) ps both.1 (omega arith) (omega arith) in
     omega (arith, rest, length-append (columns_of k p) (joined (all_columns (k + 1) ps)), columns_long k p both.0, column_next k h (omega arith))
-  where
-    go : (b : Bool) → try b (field_fault k) k (texts_verdict (k + 1) ps) ≡ Verdict.Passed → (b ≡ true) × (texts_verdict (k + 1) ps ≡ Verdict.Passed)
-    go true f = (refl, f)
-    go false f = let z : ◌≡◌ {A = ℕ} 0 1 = cc f in absurd (omega arith)
 
 pub texts_many : (n : ℕ) (xs : List ℕ) (at : ℕ) → length (texts_from n xs at) ≡ n + 1
 unfolding texts_from
 texts_many zero xs at = refl
 texts_many (suc n) xs at = omega (arith, texts_many n xs (stop_from xs at + 1))
 
-pub six_long : (xs : List ℕ) → texts_verdict 1 (six_texts xs) ≡ Verdict.Passed → length (joined (all_columns 1 (six_texts xs))) ≡ 75
+pub six_long : (xs : List ℕ) → texts_verdict 1 (six_texts xs) ≡ Ok tt → length (joined (all_columns 1 (six_texts xs))) ≡ 75
 six_long xs e = sym (zero-add (length (joined (all_columns 1 (six_texts xs))))) ∙ columns_all 1 (six_texts xs) e (lit≤ tt) (omega (arith, texts_many 5 xs 0))
 
-pub row_made : (bank : List ℕ) (number : ℕ) (xs row : List ℕ) → texts_verdict 1 (six_texts xs) ≡ Verdict.Passed → row ≡ empty_row bank number
+pub row_made : (bank : List ℕ) (number : ℕ) (xs row : List ℕ) → texts_verdict 1 (six_texts xs) ≡ Ok tt → row ≡ empty_row bank number
     → sets row 0 (joined (all_columns 1 (six_texts xs))) ≡ row_of_line bank number xs
 row_made bank number xs row e f =
     let l = six_long xs e in
@@ -147,21 +136,8 @@ row_made bank number xs row e f =
 
 -- ---- the line's faults and size
 
-pub line_passed : (xs : List ℕ) → line_verdict xs ≡ Verdict.Passed → (six_fields xs ≡ true) × (texts_verdict 1 (six_texts xs) ≡ Verdict.Passed)
-line_passed xs e = go (six_fields xs) e
-  where
-    go : (b : Bool) → try b Fault.Comma 0 (texts_verdict 1 (six_texts xs)) ≡ Verdict.Passed → (b ≡ true) × (texts_verdict 1 (six_texts xs) ≡ Verdict.Passed)
-    go true f = (refl, f)
-    go false f = let z : ◌≡◌ {A = ℕ} 0 1 = cc f in absurd (omega arith)
-
-pub tried_broken : (xs : List ℕ) → six_fields xs ≡ false → Verdict.Failed Fault.Comma 0 ≡ line_verdict xs
-tried_broken xs e = rw e refl
-
-pub tried_six : (xs : List ℕ) → six_fields xs ≡ true → texts_verdict 1 (six_texts xs) ≡ line_verdict xs
-tried_six xs e = rw e refl
-
-pub tried_never : {A : Type 0} → Verdict.Failed Fault.Comma 0 ≡ Verdict.Passed → A
-tried_never e = let z : ◌≡◌ {A = ℕ} 0 1 = cc e in absurd (omega arith)
+pub line_passed : (xs : List ℕ) → line_verdict xs ≡ Ok tt → (six_fields xs ≡ true) × (texts_verdict 1 (six_texts xs) ≡ Ok tt)
+line_passed xs e = passed (six_fields xs) Fault.Comma 0 (texts_verdict 1 (six_texts xs)) e
 
 -- a break lies in the line's bytes
 pub break_inside : (xs : List ℕ) (stop : ℕ) → break_at xs stop ≡ true → size_by xs stop ≤ length xs
@@ -234,44 +210,6 @@ lines_few (suc n) (b ∷ bs) = omega (arith, lines_few n (drop (line_size (b ∷
 pub lines_count : (xs : List ℕ) → length (lines_in xs) ≤ length xs
 lines_count xs = lines_few (length xs) xs
 
--- ---- the fields of a line that is right, as the code walks along them
-
-module _ (xs : List ℕ) (at k : ℕ) where
-  pub right_step : k < 6 → fields_right (6 - k) xs at ≡ true
-      → (stop_from xs at + 1 ≤ length xs) × (fields_right (6 - (k + 1)) xs (stop_from xs at + 1) ≡ true) × (last_stop (6 - (k + 1)) xs (stop_from xs at + 1) ≡ last_stop (6 - k) xs at)
-  right_step h e =
-      let n : 6 - k - 1 ≡ 6 - (k + 1) = omega arith in
-      let all = sym (right_more xs at (6 - k) (omega arith)) ∙ e in
-      let both = and_both ((cell_of (drop at xs)).whole && eqb (get_or xs (stop_from xs at) 0) 44) (fields_right (6 - k - 1) xs (stop_from xs at + 1)) all in
-      let comma = eqb-true (get_or xs (stop_from xs at) 0) 44 (and_both (cell_of (drop at xs)).whole (eqb (get_or xs (stop_from xs at) 0) 44) both.0).1 in (
-        inside (leb (length xs) (stop_from xs at)) refl comma,
-        ap (λ m. fields_right m xs (stop_from xs at + 1)) (sym n) ∙ both.1,
-        ap (λ m. last_stop m xs (stop_from xs at + 1)) (sym n) ∙ sym (stop_more xs at (6 - k) (omega arith)),
-      )
-    where
-      inside : (b : Bool) → leb (length xs) (stop_from xs at) ≡ b → get_or xs (stop_from xs at) 0 ≡ 44 → stop_from xs at + 1 ≤ length xs
-      inside true h t = let z : get_or xs (stop_from xs at) 0 ≡ 0 = get_or-eq_default xs 0 (leb-true (length xs) (stop_from xs at) h) in absurd (omega arith)
-      inside false h t = omega (arith, leb-false (length xs) (stop_from xs at) h)
-
--- the cell that the code has found
-pub stop_of : (xs : List ℕ) (at : ℕ) (c : Cell) → c ≡ cell_of (drop at xs) → at + c.size ≡ stop_from xs at
-stop_of xs at c e = ap (λ x. at + x.size) e
-
--- and its text
-pub text_of : (xs : List ℕ) (at : ℕ) (c : Cell) (inner : List ℕ) → c ≡ cell_of (drop at xs) → inner ≡ inner_of (take (at + c.size - at) (drop at xs)) → undoubled false inner ≡ text_from xs at
-text_of xs at c inner e f =
-    let n : at + c.size - at ≡ c.size = omega arith in
-    ap (undoubled false) (f ∙ ap (λ k. inner_of (take k (drop at xs))) (n ∙ ap (λ x. x.size) e))
-
--- the last of them
-pub six_of : (xs : List ℕ) (at k : ℕ) → k ≤ 6 → 6 ≤ k → fields_right (6 - k) xs at ≡ true → (break_at xs (stop_from xs at) ≡ true) × (last_stop (6 - k) xs at ≡ stop_from xs at)
-six_of xs at k h g e =
-    let n : 6 - k ≤ 0 = omega arith in
-    ((and_both (cell_of (drop at xs)).whole (break_at xs (stop_from xs at)) (sym (right_last xs at (6 - k) n) ∙ e)).1, stop_last xs at (6 - k) n)
-
-pub at_six : (P : ℕ → Type 0) (k : ℕ) → k ≤ 6 → 6 ≤ k → P k → P 6
-at_six P k h g p = let six : k ≡ 6 = omega arith in subst P six p
-
 -- ---- fields put into the row
 
 -- bytes put in place of a part
@@ -280,70 +218,89 @@ part_put r ys v from to h g e l =
     rw (e, drop-drop (to - from) from r)
     (sym (sets-eq v r from (omega arith) ∙ rw (l, append_assoc (take from r) v (drop (from + (to - from)) r))))
 
-part_long : (r : List ℕ) (from to : ℕ) → from ≤ to → to ≤ length r → length (take (to - from) (drop from r)) ≡ to - from
-part_long r from to h g = simp (length-take, length-drop) (omega arith)
+-- i fields are put into the row, and the line whose texts are ts has no fault
+pub record Placing (ts : List (List ℕ)) (whole row : List ℕ) (i : ℕ) : Type 0 where
+  pub long : length row ≡ 93
+  pub right : texts_verdict (i + 1) (drop i ts) ≡ Ok tt
+  pub put : sets row (column_at (i + 1)) (joined (all_columns (i + 1) (drop i ts))) ≡ whole
 
-pub amount_there : (k : ℕ) (inner : List ℕ) → k ≡ 4 → field_right k (undoubled false inner) ≡ true → amount_right inner ≡ true
-amount_there k inner e f = amount_same inner ∙ sym (rw (eq-eqb k 4 e)) ∙ f
+pub place_first : (bank : List ℕ) (number : ℕ) (xs row : List ℕ) → line_verdict xs ≡ Ok tt → length row ≡ 93 → row ≡ empty_row bank number
+    → Placing (six_texts xs) (row_of_line bank number xs) row 0
+place_first bank number xs row e l f = record { long = l; right = (line_passed xs e).1; put = row_made bank number xs row (line_passed xs e).1 f }
 
-pub text_fits : (k : ℕ) (p : List ℕ) → (k ≡ 4 → ⊥) → field_right k p ≡ true → length p ≤ field_wide k
-text_fits k p e f = leb-true (length p) (field_wide k) (sym (rw (ne_eqb k 4 e)) ∙ f)
+module _ (ts : List (List ℕ)) (whole row : List ℕ) (i : ℕ) (at : Placing ts whole row i) where
+  pub field_passed : i < length ts → (field_right (i + 1) (get_or ts i []) ≡ true) × (texts_verdict (i + 1 + 1) (drop (i + 1) ts) ≡ Ok tt)
+  field_passed h =
+      passed (field_right (i + 1) (get_or ts i [])) (field_fault (i + 1)) (i + 1) (texts_verdict (i + 1 + 1) (drop (i + 1) ts))
+      (sym (verdict_at (i + 1) ts i h) ∙ at.right)
 
-pub amount_put : (row ys inner : List ℕ) (k cents : ℕ) → k ≡ 4 → length row ≡ 93 → amount_right inner ≡ true → cents ≡ cents_in inner → ys ≡ render (length (take (38 - 28) (drop 28 row))) cents
-    → take 28 row ++ (ys ++ drop (38 - 28) (drop 28 row)) ≡ sets row (column_at k) (columns_of k (undoubled false inner))
-amount_put row ys inner k cents e l a f g =
-    let text : ys ≡ render 10 (cents_in inner) = g ∙ rw (part_long row 28 38 (lit≤ tt) (omega arith), f) refl in
-    part_put row ys (render 10 (cents_in inner)) 28 38 (lit≤ tt) (omega arith) text (length_render 10 (cents_in inner))
-    ∙ rw (e, amount_plain inner a) refl
+  pub place_on : (made : List ℕ) → i < 6 → length ts ≡ 6 → made ≡ sets row (column_at (i + 1)) (columns_of (i + 1) (get_or ts i [])) → Placing ts whole made (i + 1)
+  unfolding all_columns joined
+  place_on made h m e =
+      record {
+        long = ap length e ∙ length-sets row (column_at (i + 1)) p ∙ at.long;
+        right = (field_passed (omega arith)).1;
+        put =
+            ap (λ r. sets r (column_at (i + 1 + 1)) rest) e
+            ∙ ap (λ n. sets (sets row (column_at (i + 1)) p) n rest) (sym next)
+            ∙ sym (sets_append row (column_at (i + 1)) p rest)
+            ∙ ap (λ ps. sets row (column_at (i + 1)) (joined (all_columns (i + 1) ps))) (sym here)
+            ∙ at.put;
+      }
+    where
+      p : List ℕ
+      p = columns_of (i + 1) (get_or ts i [])
 
-pub text_put : (row ys inner : List ℕ) (k at wide : ℕ) → (k ≡ 4 → ⊥) → 1 ≤ k → k ≤ 6 → length row ≡ 93 → at ≡ column_at k → wide ≡ field_wide k → length (undoubled false inner) ≤ field_wide k
-    → ys ≡ filled_to (length (take (at + wide - at) (drop at row))) (undoubled false inner)
-    → take at row ++ (ys ++ drop (at + wide - at) (drop at row)) ≡ sets row (column_at k) (columns_of k (undoubled false inner))
-text_put row ys inner k at wide e h j l a w m g =
-    let end = column_end k h j in
-    let n : at + wide - at ≡ wide = omega arith in
-    let long : length (take (at + wide - at) (drop at row)) ≡ field_wide k = part_long row at (at + wide) (omega arith) (omega arith) ∙ n ∙ w in
-    let text : ys ≡ filled_to (field_wide k) (undoubled false inner) = g ∙ ap (λ x. filled_to x (undoubled false inner)) long in
-    part_put row ys (filled_to (field_wide k) (undoubled false inner)) at (at + wide) (omega arith) (omega arith) text (length_filled (field_wide k) (undoubled false inner) m ∙ sym (n ∙ w))
-    ∙ ap (λ x. sets row x (filled_to (field_wide k) (undoubled false inner))) a
-    ∙ rw (ne_eqb k 4 e) refl
+      rest : List ℕ
+      rest = joined (all_columns (i + 1 + 1) (drop (i + 1) ts))
 
-pub text_room : (row p : List ℕ) (k at wide : ℕ) → 1 ≤ k → k ≤ 6 → length row ≡ 93 → at ≡ column_at k → wide ≡ field_wide k → length p ≤ field_wide k → length p ≤ length (take (at + wide - at) (drop at row))
-text_room row p k at wide h j l a w m =
-    let end = column_end k h j in
-    omega (arith, part_long row at (at + wide) (omega arith) (omega arith))
+      here : drop i ts ≡ get_or ts i [] ∷ drop (i + 1) ts
+      here = drop-cons ts i [] (omega arith) ∙ ap (λ n. get_or ts i [] ∷ drop n ts) (sym (add-one i))
 
--- the row before its fields
-pub empty_made : (bank ys : List ℕ) (number : ℕ) (r : List ℕ) → length bank ≡ 8 → r ≡ sets (set (replicate 93 32) 77 48) 78 bank → ys ≡ render (length (take (93 - 86) (drop 86 r))) number
-    → take 86 r ++ (ys ++ drop (93 - 86) (drop 86 r)) ≡ empty_row bank number
+      next : column_at (i + 1) + length p ≡ column_at (i + 1 + 1)
+      next = ap (λ n. column_at (i + 1) + n) (columns_long (i + 1) (get_or ts i []) (field_passed (omega arith)).0) ∙ column_next (i + 1) (omega arith) (omega arith)
+
+  -- the same, as the code puts the columns
+  pub place_put : (from to : ℕ) (columns p : List ℕ) → i < 6 → length ts ≡ 6 → from ≡ get_or starts i 0 → to ≡ get_or starts (i + 1) 0
+      → columns ≡ columns_of (i + 1) p → p ≡ get_or ts i [] → Placing ts whole (put_mid from (to - from) row columns) (i + 1)
+  place_put from to columns p h m f t e g = place_on (put_mid from (to - from) row columns) h m (put ∙ ap (λ n. sets row n (columns_of (i + 1) (get_or ts i []))) first)
+    where
+      here : columns ≡ columns_of (i + 1) (get_or ts i [])
+      here = e ∙ ap (columns_of (i + 1)) g
+
+      first : from ≡ column_at (i + 1)
+      first = f ∙ ap (λ n. get_or starts n 0) (omega arith)
+
+      last : to ≡ column_at (i + 1 + 1)
+      last = t ∙ ap (λ n. get_or starts n 0) (omega arith)
+
+      wide : column_at (i + 1) + field_wide (i + 1) ≡ column_at (i + 1 + 1)
+      wide = column_next (i + 1) (omega arith) (omega arith)
+
+      long : length (columns_of (i + 1) (get_or ts i [])) ≡ field_wide (i + 1)
+      long = columns_long (i + 1) (get_or ts i []) (field_passed (omega arith)).0
+
+      put : put_mid from (to - from) row columns ≡ sets row from (columns_of (i + 1) (get_or ts i []))
+      put = part_put row columns (columns_of (i + 1) (get_or ts i [])) from to (omega (arith, first, last, wide)) (omega (arith, first, last, wide, column_end (i + 1) (omega arith) (omega arith), at.long)) here (omega (arith, first, last, wide, long))
+
+  pub place_end : 6 ≤ i → i ≤ 6 → length ts ≡ 6 → row ≡ whole
+  unfolding all_columns joined
+  place_end h g m = sym (ap (λ ps. sets row (column_at (i + 1)) (joined (all_columns (i + 1) ps))) none) ∙ at.put
+    where
+      none : drop i ts ≡ []
+      none = drop_of_length-le ts (omega arith)
+
+-- the row before its fields: bytes and digits put over blanks
+pub empty_made : (bank made digits : List ℕ) (number : ℕ) → length bank ≡ 8 → made ≡ bank → digits ≡ render (length (take 7 (drop 8 (made ++ replicate 7 32)))) number
+    → take 86 (replicate 77 32 ++ 48 ∷ (made ++ replicate 7 32)) ++ (digits ++ drop 7 (drop 86 (replicate 77 32 ++ 48 ∷ (made ++ replicate 7 32)))) ≡ empty_row bank number
 unfolding joined
-empty_made bank ys number r l e f =
-    let base : List ℕ = set (replicate 93 32) 77 48 in
-    let long : length r ≡ 93 = ap length e ∙ length-sets base 78 bank in
-    let text : ys ≡ render 7 number = f ∙ rw (part_long r 86 93 (lit≤ tt) (omega arith)) refl in
-    part_put r ys (render 7 number) 86 93 (lit≤ tt) (omega arith) text (length_render 7 number)
-    ∙ ap (λ x. sets x 86 (render 7 number)) e
-    ∙ ap (λ n. sets (sets base 78 bank) (78 + n) (render 7 number)) (sym l)
-    ∙ sym (sets_append base 78 bank (render 7 number))
-    ∙ sets-eq (bank ++ render 7 number) base 78 (rw (length-append, l, length_render) (lit≤ tt))
-    ∙ rw (length-append bank (render 7 number), l, length_render 7 number, append-nil (render 7 number), append-nil (bank ++ render 7 number)) refl
+empty_made bank made digits number l e f = ap (λ x. replicate 77 32 ++ 48 ∷ x) behind
+  where
+    rest : drop 8 (made ++ replicate 7 32) ≡ replicate 7 32
+    rest = rw e (drop_at bank (replicate 7 32) 8 l)
 
--- one field put in, and the last
-module _ (xs : List ℕ) (at : ℕ) (row whole made : List ℕ) (c : Cell) (inner : List ℕ) (e : c ≡ cell_of (drop at xs)) (f : inner ≡ inner_of (take (at + c.size - at) (drop at xs))) where
-  pub right_of : (k : ℕ) → k < 6 → texts_verdict k (texts_from (6 - k) xs at) ≡ Verdict.Passed → field_right k (undoubled false inner) ≡ true
-  right_of k h v = ap (field_right k) (text_of xs at c inner e f) ∙ (verdict_passed xs at k h v).0
+    front : take 8 (made ++ replicate 7 32) ≡ bank
+    front = rw e (take_at bank (replicate 7 32) 8 l)
 
-  pub row_step : (k : ℕ) → 1 ≤ k → k < 6 → texts_verdict k (texts_from (6 - k) xs at) ≡ Verdict.Passed → made ≡ sets row (column_at k) (columns_of k (undoubled false inner))
-      → sets row (column_at k) (joined (all_columns k (texts_from (6 - k) xs at))) ≡ whole
-      → sets made (column_at (k + 1)) (joined (all_columns (k + 1) (texts_from (6 - (k + 1)) xs (at + c.size + 1)))) ≡ whole
-  row_step k g h v m w =
-      ap (λ n. sets made (column_at (k + 1)) (joined (all_columns (k + 1) (texts_from (6 - (k + 1)) xs (n + 1))))) (stop_of xs at c e)
-      ∙ ap (λ r. sets r (column_at (k + 1)) (joined (all_columns (k + 1) (texts_from (6 - (k + 1)) xs (stop_from xs at + 1))))) (m ∙ ap (λ p. sets row (column_at k) (columns_of k p)) (text_of xs at c inner e f))
-      ∙ sym (columns_more xs at k row h (columns_long k (text_from xs at) (verdict_passed xs at k h v).0) (column_next k g (omega arith)))
-      ∙ w
-
-  pub row_last : made ≡ sets row (column_at 6) (columns_of 6 (undoubled false inner)) → sets row (column_at 6) (joined (all_columns 6 (texts_from 0 xs at))) ≡ whole → made ≡ whole
-  row_last m w = m ∙ ap (λ p. sets row (column_at 6) (columns_of 6 p)) (text_of xs at c inner e f) ∙ sym (columns_last xs at row) ∙ w
-
-  pub last_of : texts_verdict 6 (texts_from 0 xs at) ≡ Verdict.Passed → field_right 6 (undoubled false inner) ≡ true
-  last_of v = ap (field_right 6) (text_of xs at c inner e f) ∙ last_passed xs at v
+    behind : take 8 (made ++ replicate 7 32) ++ (digits ++ drop 7 (drop 8 (made ++ replicate 7 32))) ≡ bank ++ (render 7 number ++ [])
+    behind = rw (f, rest, front) refl

@@ -1,10 +1,11 @@
 -- What a line becomes: its faults, and the row of its entry.
+use Rattle.std.specs.Prelude.{Ok, Err}
 use Rattle.std.specs.Prelude.{ℕ, ◌+◌, ◌-◌, ◌*◌, Bool, true, false, ◌&&◌, List, [], ◌∷◌, ◌++◌, leb, eqb, length, get_or, take, drop, replicate}
 use Rattle.text.specs.Decimal.{pick, digits, value, render}
 use Rattle.text.specs.Rows.{joined}
 use Rattle.layout.specs.declared.Fault.{Fault}
 use Rattle.layout.specs.Fields.{entry}
-use Rattle.check_record.specs.declared.Verdict.{Verdict}
+use Rattle.check_record.specs.Verdict.{Verdict, wrong_of}
 use Rattle.view.specs.View.{Entry, wide, blanks}
 use Rattle.csv_cells.specs.Cells.{filled_to, six_fields, six_texts}
 
@@ -37,11 +38,11 @@ field_fault k = pick (eqb k 4) Fault.Cents Fault.Long
 -- a test, the refusal of field k if it fails, and the tests behind it
 abbrev pub try : Bool → Fault → ℕ → Verdict → Verdict
 try true fault k rest = rest
-try false fault k rest = Verdict.Failed fault k
+try false fault k rest = Err (wrong_of fault k)
 
 -- "then field by field": these fields, the first of them with number k
 unfoldable pub texts_verdict : ℕ → List (List ℕ) → Verdict
-texts_verdict k [] = Verdict.Passed
+texts_verdict k [] = Ok tt
 texts_verdict k (p ∷ ps) = try (field_right k p) (field_fault k) k (texts_verdict (k + 1) ps)
 
 -- "29 not six fields in the RFC's grammar (field 0), then field by field"

@@ -1,10 +1,11 @@
 -- Importing: "Given a file row and one batch row, whose entry count is filled in, the lines become a pay table".
+use Rattle.std.specs.Prelude.{Ok, Err}
 use Rattle.std.specs.Prelude.{ℕ, ◌+◌, Bool, ◌&&◌, List, [], ◌∷◌, leb, eqb, length, take, drop}
 use Rattle.layout.specs.declared.Fault.{Fault}
-use Rattle.layout.specs.declared.Answer.{Answer}
-use Rattle.layout.specs.declared.Made.{Made}
+use Rattle.layout.specs.Answers.{Answer}
+use Rattle.layout.specs.Answers.{Made}
 use Rattle.layout.specs.declared.Way.{Way}
-use Rattle.check_record.specs.declared.Verdict.{Verdict}
+use Rattle.check_record.specs.Verdict.{Verdict}
 use Rattle.check_record.specs.Record.{checked_of}
 use Rattle.view.specs.View.{View}
 use Rattle.view.specs.Table.{file_wide, head_wide, batch_wide, table_bytes, formed}
@@ -15,11 +16,11 @@ use Rattle.csv_entry.specs.Entries.{line_verdict, entries_of_lines}
 
 -- "for the first faulty line, whose number stands for the record": k is the number of the first of these lines
 abbrev pub line_answer : Verdict → ℕ → Answer → Answer
-line_answer Verdict.Passed k rest = rest
-line_answer (Verdict.Failed fault j) k rest = refusal fault k j
+line_answer (Ok _) k rest = rest
+line_answer (Err wrong) k rest = refusal wrong.fault k wrong.field
 
 unfoldable pub lines_answer : ℕ → List (List ℕ) → Answer
-lines_answer k [] = Answer.Granted
+lines_answer k [] = Ok tt
 lines_answer k (l ∷ ls) = line_answer (line_verdict l) k (lines_answer (k + 1) ls)
 
 -- "the batch's bank" in the table's batch row: columns 80-87 of record 5

@@ -1,7 +1,7 @@
 -- Laws of a field: blanks at its end, leading zeros, doubled quotes, and the pieces that it is put in.
 -- Assumes nothing.
-use Prim.Native.Nat.{ℕ, zero, suc, ◌+◌, ◌-◌, ◌≤◌, ◌<◌}
-use native.Mathlib.Numerals.{add-one, sub-one}
+use Prim.Native.Nat.{ℕ, suc, ◌+◌, ◌-◌, ◌*◌, ◌≤◌, ◌<◌}
+use native.Mathlib.Numerals.{add-one}
 use native.Mathlib.Omega.{arith}
 use mathlib.Core.Path.{◌≡◌, refl, sym, ap, ◌∙◌, subst}
 use mathlib.Core.Bool.{Bool, true, false, ◌&&◌}
@@ -10,14 +10,17 @@ use borrow.Author.Tests.{eq-eqb, ne_eqb, lt-ltb}
 use lib.Dec.{eqb, ltb}
 use lib.ListN.{length, get_or, take, drop, length-append, length-take, length-drop, drop_of_length-le}
 use lib.Seq.{take-suc, take_all, drop-cons}
+use Rattle.std.proofs.lemmas.List.{take_rest}
+use Rattle.std.specs.Prelude.{count_by, ◌==◌}
+use Rattle.std.proofs.Common.{cond}
+use Rattle.std.proofs.lemmas.List.Sums.{sum_by-cons, count_by-le-length}
 use Rattle.text.specs.Decimal.{pick}
-use Rattle.text.proofs.SetLaws.{drop_take}
 use Rattle.table_read.specs.WorkPuts.{Puts, Room}
-use Rattle.csv_export.specs.Quoting.{in_front, trimmed, escaped, doubled, quoted, unpadded, amount_text}
+use Rattle.csv_export.specs.Quoting.{in_front, trimmed, escaped, doubled, quoted, cell, unpadded, amount_text}
 
 -- ---- blanks at the end
 
-trimmed_blank : (xs : List ℕ) → trimmed (xs ++ 32 ∷ []) ≡ trimmed xs
+pub trimmed_blank : (xs : List ℕ) → trimmed (xs ++ 32 ∷ []) ≡ trimmed xs
 unfolding trimmed
 trimmed_blank [] = refl
 trimmed_blank (x ∷ xs) = ap (in_front x) (trimmed_blank xs)
@@ -48,42 +51,37 @@ trimmed_take (x ∷ xs) = front_take x xs (trimmed xs) (trimmed_take xs)
 pub trimmed_short : (xs : List ℕ) → length (trimmed xs) ≤ length xs
 trimmed_short xs = omega (arith, ap length (trimmed_take xs), length-take (length (trimmed xs)) xs)
 
--- a loop that goes down from the end
-module _ (xs : List ℕ) where
-  last_apart : (n : ℕ) → 0 < n → n ≤ length xs → take n xs ≡ take (n - 1) xs ++ get_or xs (n - 1) 0 ∷ []
-  last_apart zero h g = absurd (omega arith)
-  last_apart (suc n) h g = rw sub-one (take-suc xs n 0 g)
+-- by the last byte
+module _ (xs : List ℕ) (some : 1 ≤ length xs) where
+  last_apart : xs ≡ take (length xs - 1) xs ++ get_or xs (length xs - 1) 0 ∷ []
+  last_apart =
+      let n : suc (length xs - 1) ≡ length xs = omega arith in
+      sym (take_all (length xs) xs (omega arith)) ∙ ap (λ k. take k xs) (sym n) ∙ take-suc xs (length xs - 1) 0 (omega arith)
 
-  pub kept_turn : (n : ℕ) → 0 < n → n ≤ length xs → get_or xs (n - 1) 0 ≡ 32 → trimmed (take n xs) ≡ trimmed xs → trimmed (take (n - 1) xs) ≡ trimmed xs
-  kept_turn n h g e k =
-      sym (trimmed_blank (take (n - 1) xs)) ∙ ap (λ b. trimmed (take (n - 1) xs ++ b ∷ [])) (sym e) ∙ ap trimmed (sym (last_apart n h g)) ∙ k
+  pub trimmed_front : get_or xs (length xs - 1) 0 ≡ 32 → trimmed (take (length xs - 1) xs) ≡ trimmed xs
+  trimmed_front e = sym (ap trimmed last_apart ∙ ap (λ b. trimmed (take (length xs - 1) xs ++ b ∷ [])) e ∙ trimmed_blank (take (length xs - 1) xs))
 
-  pub kept_stop : (n : ℕ) → 0 < n → n ≤ length xs → (get_or xs (n - 1) 0 ≡ 32 → ⊥) → trimmed (take n xs) ≡ trimmed xs → n ≡ length (trimmed xs)
-  kept_stop n h g d k =
-      let whole : trimmed (take n xs) ≡ take n xs = ap trimmed (last_apart n h g) ∙ trimmed_other (take (n - 1) xs) (get_or xs (n - 1) 0) d ∙ sym (last_apart n h g) in
-      omega (arith, ap length (sym whole ∙ k), length-take n xs)
+  pub trimmed_whole : (get_or xs (length xs - 1) 0 ≡ 32 → ⊥) → trimmed xs ≡ xs
+  trimmed_whole h = ap trimmed last_apart ∙ trimmed_other (take (length xs - 1) xs) (get_or xs (length xs - 1) 0) h ∙ sym last_apart
 
-  pub kept_none : (n : ℕ) → n ≤ 0 → trimmed (take n xs) ≡ trimmed xs → 0 ≡ length (trimmed xs)
-  unfolding trimmed
-  kept_none zero h k = ap length k
-  kept_none (suc n) h k = absurd (omega arith)
-
-  pub kept_text : (n : ℕ) → n ≡ length (trimmed xs) → take (n - 0) xs ≡ trimmed xs
-  kept_text n e =
-      let all : n - 0 ≡ length (trimmed xs) = omega arith in
-      ap (λ k. take k xs) all ∙ trimmed_take xs
+pub trimmed_none : (xs : List ℕ) → length xs < 1 → trimmed xs ≡ xs
+unfolding trimmed
+trimmed_none [] h = refl
+trimmed_none (x ∷ xs) h = absurd (omega arith)
 
 -- ---- leading zeros
 
-pub unpadded_zero : (x : ℕ) (xs : List ℕ) → x ≡ 48 → 0 < length xs → unpadded (x ∷ xs) ≡ unpadded xs
+pub unpadded_zero : (xs : List ℕ) → 2 ≤ length xs → get_or xs 0 0 ≡ 48 → unpadded (take (length xs - 1) (drop 1 xs)) ≡ unpadded xs
 unfolding unpadded
-unpadded_zero x xs e h = rw (eq-eqb x 48 e, lt-ltb 0 (length xs) h)
+unpadded_zero [] h e = absurd (omega arith)
+unpadded_zero (x ∷ xs) h e = rw (take_rest, eq-eqb x 48 e, lt-ltb 0 (length xs) (omega arith)) refl
 
-pub unpadded_other : (x : ℕ) (xs : List ℕ) → (x ≡ 48 → ⊥) → unpadded (x ∷ xs) ≡ x ∷ xs
+pub unpadded_other : (xs : List ℕ) → 1 ≤ length xs → (get_or xs 0 0 ≡ 48 → ⊥) → unpadded xs ≡ xs
 unfolding unpadded
-unpadded_other x xs h = rw (ne_eqb x 48 h)
+unpadded_other [] h d = absurd (omega arith)
+unpadded_other (x ∷ xs) h d = rw (ne_eqb x 48 d) refl
 
-pub unpadded_last : (xs : List ℕ) → length xs ≤ 1 → unpadded xs ≡ xs
+pub unpadded_last : (xs : List ℕ) → length xs < 2 → unpadded xs ≡ xs
 unfolding unpadded
 unpadded_last [] h = refl
 unpadded_last (x ∷ []) h = go (eqb x 48)
@@ -93,20 +91,14 @@ unpadded_last (x ∷ []) h = go (eqb x 48)
     go false = refl
 unpadded_last (x ∷ y ∷ ys) h = absurd (omega arith)
 
--- a loop that goes up from the first digit
-module _ (xs : List ℕ) (i : ℕ) where
-  pub padding_turn : i + 1 < length xs → get_or xs i 0 ≡ 48 → unpadded (drop i xs) ≡ unpadded xs → unpadded (drop (i + 1) xs) ≡ unpadded xs
-  padding_turn h e k =
-      let some : 0 < length (drop (suc i) xs) = rw length-drop (omega arith) in
-      rw add-one (sym (unpadded_zero (get_or xs i 0) (drop (suc i) xs) e some)) ∙ ap unpadded (sym (drop-cons xs i 0 (omega arith))) ∙ k
-
-  pub padding_stop : i < length xs → (get_or xs i 0 ≡ 48 → ⊥) → unpadded (drop i xs) ≡ unpadded xs → drop i xs ≡ unpadded xs
-  padding_stop h d k =
-      let cut = drop-cons xs i 0 h in
-      cut ∙ sym (unpadded_other (get_or xs i 0) (drop (suc i) xs) d) ∙ ap unpadded (sym cut) ∙ k
-
-  pub padding_end : length xs ≤ i + 1 → unpadded (drop i xs) ≡ unpadded xs → drop i xs ≡ unpadded xs
-  padding_end h k = sym (unpadded_last (drop i xs) (rw length-drop (omega arith))) ∙ k
+pub unpadded_short : (xs : List ℕ) → length (unpadded xs) ≤ length xs
+unfolding unpadded
+unpadded_short [] = omega arith
+unpadded_short (x ∷ xs) = go (eqb x 48 && ltb 0 (length xs)) (unpadded_short xs)
+  where
+    go : (b : Bool) → length (unpadded xs) ≤ length xs → length (pick b (unpadded xs) (x ∷ xs)) ≤ length (x ∷ xs)
+    go true h = omega arith
+    go false h = omega arith
 
 -- ---- doubled quotes
 
@@ -117,11 +109,11 @@ escaped_size b = go (eqb b 34)
     go true = omega arith
     go false = omega arith
 
-pub escaped_quote : (b : ℕ) → b ≡ 34 → escaped b ≡ 34 ∷ 34 ∷ []
-escaped_quote b e = rw (eq-eqb b 34 e)
+pub escaped_quote : (b : ℕ) → b ≡ 34 → escaped b ≡ b ∷ b ∷ []
+escaped_quote b e = rw e refl
 
 pub escaped_other : (b : ℕ) → (b ≡ 34 → ⊥) → escaped b ≡ b ∷ []
-escaped_other b d = rw (ne_eqb b 34 d)
+escaped_other b d = rw (ne_eqb b 34 d) refl
 
 pub doubled_next : (xs : List ℕ) (i : ℕ) → i < length xs → doubled (drop i xs) ≡ escaped (get_or xs i 0) ++ doubled (drop (i + 1) xs)
 unfolding doubled
@@ -136,9 +128,18 @@ unfolding doubled
 doubled_append [] ys = refl
 doubled_append (x ∷ xs) ys = rw (doubled_append xs ys) (sym (append_assoc (escaped x) (doubled xs) (doubled ys)))
 
-pub size_next : (xs : List ℕ) (i n : ℕ) → i < length xs → n + length (doubled (drop i xs)) ≡ length (doubled xs)
-    → n + length (escaped (get_or xs i 0)) + length (doubled (drop (i + 1) xs)) ≡ length (doubled xs)
-size_next xs i n h e = omega (arith, ap length (doubled_next xs i h), length-append (escaped (get_or xs i 0)) (doubled (drop (i + 1) xs)))
+-- a text takes one byte more for each quote
+pub doubled_count : (xs : List ℕ) → length xs + count_by (λ b. b == 34) xs ≡ length (doubled xs)
+unfolding doubled
+doubled_count [] = refl
+doubled_count (x ∷ xs) = omega (arith, sum_by-cons (λ b. cond (b == 34) 1 0) x xs, doubled_count xs, length-append (escaped x) (doubled xs), go (eqb x 34))
+  where
+    go : (b : Bool) → length (pick b (34 ∷ 34 ∷ []) (x ∷ [])) ≡ 1 + cond b 1 0
+    go true = refl
+    go false = refl
+
+pub doubled_short : (xs : List ℕ) → length (doubled xs) ≤ 2 * length xs
+doubled_short xs = omega (arith, doubled_count xs, count_by-le-length (λ b. b == 34) xs)
 
 -- ---- the same bytes, in other pieces
 
@@ -148,46 +149,39 @@ room_as {xs} {ys} {a} {to} e h = subst (λ l. Room l a to) e h
 pub puts_as : {xs ys a b : List ℕ} {to next : ℕ} → xs ≡ ys → Puts ys a b to next → Puts xs a b to next
 puts_as {xs} {ys} {a} {b} {to} {next} e h = subst (λ l. Puts l a b to next) (sym e) h
 
+pub puts_into : {xs a b c : List ℕ} {to next : ℕ} → c ≡ b → Puts xs a b to next → Puts xs a c to next
+puts_into {xs} {a} {b} {c} {to} {next} e h = subst (λ l. Puts xs a l to next) (sym e) h
+
 -- ---- in quotes
 
 pub quoted_size : (p : List ℕ) → length (quoted p) ≡ length (doubled p) + 2
 quoted_size p = omega (arith, length-append (doubled p) (34 ∷ []))
 
+pub text_short : (p : List ℕ) → length (quoted (trimmed p)) ≤ 2 * length p + 2
+text_short p = omega (arith, quoted_size (trimmed p), doubled_short (trimmed p), trimmed_short p)
+
 -- a field: a quote, the text, a quote, and the byte behind
-pub text_pieces : (f : List ℕ) (n b : ℕ) → n ≡ length (trimmed f)
-    → quoted (trimmed f) ++ (b ∷ []) ≡ (34 ∷ []) ++ (doubled (take (n - 0) f) ++ ((34 ∷ []) ++ (b ∷ [])))
-text_pieces f n b e = rw (kept_text f n e) (ap (λ l. 34 ∷ l) (append_assoc (doubled (trimmed f)) (34 ∷ []) (b ∷ [])))
+pub cell_pieces : (p q : List ℕ) (b : ℕ) → q ≡ p → cell p b ≡ (34 ∷ []) ++ (doubled q ++ ((34 ∷ []) ++ (b ∷ [])))
+unfolding cell
+cell_pieces p q b e = rw e (ap (λ l. 34 ∷ l) (append_assoc (doubled p) (34 ∷ []) (b ∷ [])))
 
--- an amount: the dollars from the first digit that counts on, and the cents
-module _ (a : List ℕ) (l : length a ≡ 10) (z : ℕ) (h : z ≤ length (take 8 a)) (e : drop z (take 8 a) ≡ unpadded (take 8 a)) where
-  pub zeros_few : z ≤ 8
-  zeros_few = omega (arith, length-take 8 a)
-
-  dollars : take (8 - z) (drop z a) ≡ unpadded (take 8 a)
-  dollars =
-      let all : z + (8 - z) ≡ 8 = omega (arith, zeros_few) in
-      sym (drop_take z (8 - z) a) ∙ ap (λ n. drop z (take n a)) all ∙ e
-
-  cents : take 2 (drop 8 a) ≡ drop 8 a
-  cents = take_all 2 (drop 8 a) (rw length-drop (omega arith))
-
-  amount_doubled : doubled (amount_text a) ≡ doubled (take (8 - z) (drop z a)) ++ ((46 ∷ []) ++ doubled (take 2 (drop 8 a)))
+-- an amount: the dollars, the point and the cents
+module _ (a dollars cents : List ℕ) (d : dollars ≡ unpadded (take 8 a)) (c : cents ≡ drop 8 a) where
+  amount_doubled : doubled (amount_text a) ≡ doubled dollars ++ ((46 ∷ []) ++ doubled cents)
   unfolding doubled
-  amount_doubled = rw (dollars, cents) (doubled_append (unpadded (take 8 a)) (46 ∷ drop 8 a))
+  amount_doubled = rw (d, c) (doubled_append (unpadded (take 8 a)) (46 ∷ drop 8 a))
 
-  pub amount_length : length (quoted (amount_text a)) ≡ length (doubled (take (8 - z) (drop z a))) + length (doubled (take 2 (drop 8 a))) + 3
-  amount_length =
-      let d = doubled (take (8 - z) (drop z a)) in
-      let c = doubled (take 2 (drop 8 a)) in
-      omega (arith, quoted_size (amount_text a), ap length amount_doubled, length-append d ((46 ∷ []) ++ c))
+  pub amount_length : length (quoted (amount_text a)) ≡ length (doubled dollars) + length (doubled cents) + 3
+  amount_length = omega (arith, quoted_size (amount_text a), ap length amount_doubled, length-append (doubled dollars) ((46 ∷ []) ++ doubled cents))
 
-  pub amount_short : (length (take (8 - z) (drop z a)) ≤ 8) × (length (take 2 (drop 8 a)) ≤ 2)
-  amount_short = (omega (arith, length-take (8 - z) (drop z a)), omega (arith, length-take 2 (drop 8 a)))
+  pub amount_short : length a ≤ 10 → length (quoted (amount_text a)) ≤ 23
+  amount_short h =
+      let few : length dollars ≤ 8 = omega (arith, ap length d, unpadded_short (take 8 a), length-take 8 a) in
+      let two : length cents ≤ 2 = omega (arith, ap length c, length-drop 8 a) in
+      omega (arith, amount_length, doubled_short dollars, doubled_short cents)
 
-  pub amount_pieces : (b : ℕ) → quoted (amount_text a) ++ (b ∷ [])
-      ≡ (34 ∷ []) ++ (doubled (take (8 - z) (drop z a)) ++ ((46 ∷ []) ++ (doubled (take 2 (drop 8 a)) ++ ((34 ∷ []) ++ (b ∷ [])))))
+  pub amount_pieces : (b : ℕ) → cell (amount_text a) b ≡ (34 ∷ []) ++ (doubled dollars ++ ((46 ∷ []) ++ (doubled cents ++ ((34 ∷ []) ++ (b ∷ [])))))
   amount_pieces b =
-      let d = doubled (take (8 - z) (drop z a)) in
-      let c = doubled (take 2 (drop 8 a)) in
-      ap (λ l. (34 ∷ (l ++ (34 ∷ []))) ++ (b ∷ [])) amount_doubled
-      ∙ ap (λ l. 34 ∷ l) (append_assoc (d ++ (46 ∷ c)) (34 ∷ []) (b ∷ []) ∙ append_assoc d (46 ∷ c) (34 ∷ b ∷ []))
+      cell_pieces (amount_text a) (amount_text a) b refl
+      ∙ ap (λ l. 34 ∷ (l ++ (34 ∷ b ∷ []))) amount_doubled
+      ∙ ap (λ l. 34 ∷ l) (append_assoc (doubled dollars) (46 ∷ doubled cents) (34 ∷ b ∷ []))

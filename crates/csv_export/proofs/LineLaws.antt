@@ -1,63 +1,73 @@
 -- Laws of a line and of many, and what exporting gives.
 -- Assumes nothing.
-use Prim.Native.Nat.{ℕ, ◌+◌, ◌-◌, ◌≤◌, ◌<◌}
+use Prim.Native.Nat.{ℕ, ◌+◌, ◌*◌, ◌≤◌, ◌<◌}
 use native.Mathlib.Nat.{zero-add}
 use native.Mathlib.Omega.{arith}
-use mathlib.Core.Path.{◌≡◌, sym, ap, ◌∙◌}
+use mathlib.Core.Path.{◌≡◌, refl, sym, ap, ◌∙◌}
 use mathlib.Core.List.{List, [], ◌∷◌, ◌++◌, append_assoc, map}
-use lib.ListN.{length, take, drop, length-append, length-take, length-drop}
+use lib.ListN.{length, get_or, take, drop, length-append, length-take, drop_of_length-le}
+use lib.Seq.{drop-cons}
+use native.Mathlib.Numerals.{add-one}
+use borrow.Rule.Slice.PartMut.{mid_of}
+use Rattle.std.specs.List.{sum_by}
+use Rattle.std.proofs.lemmas.List.Sums.{sum_by-cons}
 use lib.Seq.{sets, sets-eq}
 use Rattle.text.specs.Rows.{joined}
 use Rattle.table_form.specs.declared.Sections.{Sections}
 use Rattle.table_form.specs.WorkSections.{Counted}
-use Rattle.table_form.proofs.ShapeLaws.{entry_rows_at, rows_first, rows_none}
+use Rattle.table_form.proofs.ShapeLaws.{entry_rows_at}
 use Rattle.table_read.specs.WorkPuts.{Puts}
-use Rattle.csv_export.specs.Quoting.{trimmed, quoted, amount_text}
+use Rattle.csv_export.proofs.FieldLaws.{text_short, amount_short}
+use Rattle.csv_export.specs.Quoting.{trimmed, quoted, cell, amount_text}
 use Rattle.csv_export.specs.Lining.{comma_line, line_of_row, lines_at, exported}
 
 -- ---- a line
 
-abbrev cell : List ℕ → ℕ → List ℕ
-cell p b = quoted p ++ (b ∷ [])
+module _ (row amount : List ℕ) (e : amount ≡ take 10 (drop 28 row)) where
+  -- each field with the byte behind it, and LF
+  pub line_pieces : line_of_row row
+      ≡ cell (trimmed (take 2 row)) 44
+      ++ (cell (trimmed (mid_of 2 9 row)) 44
+      ++ (cell (trimmed (mid_of 11 17 row)) 44
+      ++ (cell (amount_text amount) 44 ++ (cell (trimmed (mid_of 38 15 row)) 44 ++ (cell (trimmed (mid_of 53 22 row)) 13 ++ (10 ∷ []))))))
+  unfolding comma_line cell
+  line_pieces = simp append_assoc (rw e refl)
 
--- each field with the byte behind it, and LF
-pub line_pieces : (row : List ℕ) → line_of_row row
-    ≡ cell (trimmed (take 2 row)) 44
-    ++ (cell (trimmed (take 9 (drop 2 row))) 44
-    ++ (cell (trimmed (take 17 (drop 11 row))) 44
-    ++ (cell (amount_text (take 10 (drop 28 row))) 44
-    ++ (cell (trimmed (take 15 (drop 38 row))) 44 ++ (cell (trimmed (take 22 (drop 53 row))) 13 ++ (10 ∷ []))))))
-unfolding comma_line
-line_pieces row = simp append_assoc
+  pub line_length : length (line_of_row row)
+      ≡ length (quoted (trimmed (take 2 row))) + length (quoted (trimmed (mid_of 2 9 row))) + length (quoted (trimmed (mid_of 11 17 row)))
+      + (length (quoted (amount_text amount)) + length (quoted (trimmed (mid_of 38 15 row))) + length (quoted (trimmed (mid_of 53 22 row))))
+      + 7
+  unfolding cell
+  line_length = ap length line_pieces ∙ simp length-append (omega arith)
 
-pub line_length : (row : List ℕ) → length (line_of_row row)
-    ≡ length (quoted (trimmed (take 2 row))) + length (quoted (trimmed (take 9 (drop 2 row)))) + length (quoted (trimmed (take 17 (drop 11 row))))
-    + (length (quoted (amount_text (take 10 (drop 28 row)))) + length (quoted (trimmed (take 15 (drop 38 row)))) + length (quoted (trimmed (take 22 (drop 53 row)))))
-    + 7
-line_length row = ap length (line_pieces row) ∙ simp length-append (omega arith)
+-- whatever the row is
+pub line_short : (row : List ℕ) → length (line_of_row row) ≤ 200
+line_short row =
+    let amount = take 10 (drop 28 row) in
+    omega (arith, line_length row amount refl, part 0 2, part 2 9, part 11 17, part 38 15, part 53 22, amount_short amount _ _ refl refl (omega (arith, length-take 10 (drop 28 row))))
+  where
+    part : (from n : ℕ) → length (quoted (trimmed (mid_of from n row))) ≤ 2 * n + 2
+    part from n = omega (arith, text_short (mid_of from n row), length-take n (drop from row))
 
-pub part_short : (n : ℕ) (xs : List ℕ) → length (take n xs) ≤ n
-part_short n xs = omega (arith, length-take n xs)
+-- ---- the lines of rows
 
--- ---- the lines of rows, one by one
-
-row_here : (t : List ℕ) (at : ℕ) → take 93 (drop at t) ≡ take (at + 93 - at) (drop at t)
-row_here t at = let wide : 93 ≡ at + 93 - at = omega arith in ap (λ n. take n (drop at t)) wide
-
-pub lines_next : (t : List ℕ) (at n : ℕ) → 0 < n → lines_at t at n ≡ line_of_row (take (at + 93 - at) (drop at t)) ++ lines_at t (at + 93) (n - 1)
+pub rows_size : (rs : List (List ℕ)) → sum_by (λ r. length (line_of_row r)) rs ≡ length (joined (map line_of_row rs))
 unfolding joined
-lines_next t at n h =
-    ap (λ rs. joined (map line_of_row rs)) (rows_first 93 n at t h) ∙ ap (λ r. line_of_row r ++ lines_at t (at + 93) (n - 1)) (row_here t at)
+rows_size [] = refl
+rows_size (r ∷ rs) = sum_by-cons (λ r. length (line_of_row r)) r rs ∙ ap (λ n. length (line_of_row r) + n) (rows_size rs) ∙ sym (length-append (line_of_row r) (joined (map line_of_row rs)))
 
-pub lines_size : (t : List ℕ) (at n : ℕ) → 0 < n → length (lines_at t at n) ≡ length (line_of_row (take (at + 93 - at) (drop at t))) + length (lines_at t (at + 93) (n - 1))
-lines_size t at n h = ap length (lines_next t at n h) ∙ length-append (line_of_row (take (at + 93 - at) (drop at t))) (lines_at t (at + 93) (n - 1))
-
-pub lines_none : (t : List ℕ) (at n : ℕ) → n ≤ 0 → lines_at t at n ≡ []
+pub rows_short : (rs : List (List ℕ)) → length (joined (map line_of_row rs)) ≤ 200 * length rs
 unfolding joined
-lines_none t at n h = ap (λ rs. joined (map line_of_row rs)) (rows_none 93 n at t h)
+rows_short [] = omega arith
+rows_short (r ∷ rs) = omega (arith, line_short r, rows_short rs, length-append (line_of_row r) (joined (map line_of_row rs)))
 
-pub row_long : (t : List ℕ) (at : ℕ) → at + 93 ≤ length t → length (take (at + 93 - at) (drop at t)) ≡ 93
-row_long t at h = omega (arith, length-take (at + 93 - at) (drop at t), length-drop at t)
+pub lines_next : (rs : List (List ℕ)) (i : ℕ) → i < length rs → joined (map line_of_row (drop i rs)) ≡ line_of_row (get_or rs i []) ++ joined (map line_of_row (drop (i + 1) rs))
+unfolding joined
+lines_next rs i h = rw (drop-cons rs i [] h, add-one i) refl
+
+pub lines_end : (rs : List (List ℕ)) (i : ℕ) → length rs ≤ i → joined (map line_of_row (drop i rs)) ≡ []
+unfolding joined
+lines_end rs i h = rw (drop_of_length-le rs h) refl
 
 -- ---- the whole
 

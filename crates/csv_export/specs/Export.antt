@@ -1,6 +1,6 @@
 -- What exporting gives, and what it leaves in the lent lines.
 use Rattle.std.specs.Prelude.{List, ℕ}
-use Rattle.layout.specs.declared.Made.{Made}
+use Rattle.layout.specs.Answers.{Made}
 use Rattle.view.specs.Outcome.{Outcome, and_then, made, room}
 use Rattle.table_write.specs.Judge.{writable}
 use Rattle.csv_export.specs.Lining.{exported}

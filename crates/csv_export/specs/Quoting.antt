@@ -24,6 +24,10 @@ doubled (b ∷ bs) = escaped b ++ doubled bs
 abbrev pub quoted : List ℕ → List ℕ
 quoted p = 34 ∷ (doubled p ++ (34 ∷ []))
 
+-- a field in quotes, and the byte behind it
+unfoldable pub cell : List ℕ → ℕ → List ℕ
+cell p behind = quoted p ++ (behind ∷ [])
+
 -- "drops .. the amount's leading zeros down to one digit before the point"
 unfoldable pub unpadded : List ℕ → List ℕ
 unpadded [] = []

@@ -3,35 +3,25 @@
 #![tactic(auto)]
 
 ghost use Rattle.std.specs.Prelude.{◌≡◌};
+ghost use Rattle.layout.specs.Answers.{made_as};
 ghost use Rattle.csv_export.specs.Export.{export_of};
 
-use layout::{Answer, Fault, Made};
+use layout::{Answer, Fault, Refusal};
 use table_form::shape;
 
 pub mod lining;
 pub mod quoting;
 
 // The lines of a table that would be written; the bytes past them stay. A refusal leaves the lent bytes as they are.
-pub fn export(table: &[u8], lines: &mut [u8]) -> Made
-    ensures { (result ≡ (export_of table.now lines.old).gives) × (lines.new ≡ (export_of table.now lines.old).leaves) }
+pub fn export(table: &[u8], lines: &mut [u8]) -> Answer<u64>
+    ensures { (made_as result ≡ (export_of table.now lines.old).gives) × (lines.new ≡ (export_of table.now lines.old).leaves) }
 {
-    if let Answer::Refused(refusal) = table_write::judge(table) {
-        return Made {
-            answer: Answer::Refused(refusal),
-            length: 0,
-        };
-    }
+    table_write::judge(table)?;
     let s = shape::sections(table);
     let size = lining::lines_size(table, s.entryrows, s.entries);
     if lines.len() < size {
-        return Made {
-            answer: layout::refused(Fault::Room, 0, 0),
-            length: 0,
-        };
+        return Err(Refusal::whole(Fault::Room));
     }
     lining::put_lines(table, s.entryrows, s.entries, lines);
-    Made {
-        answer: Answer::Granted,
-        length: size as u64,
-    }
+    Ok(size as u64)
 }

@@ -1,5 +1,5 @@
-pub mod Judging
 pub mod TableLaws
+pub mod Steps
+pub mod Judging
 pub mod WalkLaws
 pub mod PutLaws
-pub mod Along

@@ -1,54 +1,37 @@
 -- The parts of the table, put one behind the other.
 -- Assumes nothing.
-use Prim.Native.Nat.{ℕ, ◌+◌, ◌-◌, ◌<◌, ◌≤◌}
+use Prim.Native.Nat.{ℕ, ◌≤◌}
 use native.Mathlib.Nat.{zero-add}
 use native.Mathlib.Omega.{arith}
 use mathlib.Core.Path.{◌≡◌, sym, ap, ◌∙◌}
-use mathlib.Core.List.{List, ◌++◌}
+use mathlib.Core.List.{List, [], ◌∷◌, ◌++◌}
 use lib.ListN.{length, take, drop}
 use lib.Seq.{sets, sets-eq, take_all}
 use Rattle.text.specs.Decimal.{render}
-use Rattle.layout.specs.declared.Answer.{Answer}
-use Rattle.csv_entry.specs.declared.Placed.{Placed}
-use Rattle.csv_cells.specs.Cells.{line_size, lines_in}
-use Rattle.csv_entry.specs.Entries.{row_of_line}
-use Rattle.csv_entry.specs.Import.{lines_answer, bank_in, import_table}
-use Rattle.csv_cells.proofs.CellLaws.{rest_of}
+use Rattle.text.specs.Rows.{joined}
+use Rattle.csv_cells.specs.Cells.{lines_in}
+use Rattle.csv_entry.specs.Import.{bank_in, import_table}
 use Rattle.table_read.specs.WorkPuts.{Puts, Room}
-use Rattle.table_read.proofs.Writing.{puts_both, Left, left_room, left_next}
+use Rattle.table_read.proofs.Writing.{puts_both, Left, left_room, left_next, left_end}
 use Rattle.csv_import.specs.WorkListing.{head_bytes, rows_bytes}
-use Rattle.csv_import.proofs.TableLaws.{row_long, table_form}
-use Rattle.csv_import.proofs.WalkLaws.{Walked, passed_here, rows_next}
+use Rattle.csv_import.proofs.TableLaws.{table_form}
 
 -- ---- one row
 
-module _ (bank : List ℕ) (b : length bank ≡ 8) {lines : List ℕ} {number at : ℕ} (w : Walked lines number at) (h : at < length lines)
-    (g : lines_answer 1 (lines_in lines) ≡ Answer.Granted) (line : Placed)
-    (p : (line.row ≡ row_of_line bank number (take (length lines - at) (drop at lines))) × (line.size ≡ line_size (take (length lines - at) (drop at lines)))) where
-  pub size_here : line.size ≡ line_size (drop at lines)
-  size_here = p.1 ∙ ap line_size (rest_of lines at)
+module _ {rows rows' : List (List ℕ)} {row : List ℕ} (e : rows ≡ row ∷ rows') (l : length row ≡ 93) {all was here : List ℕ} {start to : ℕ} (left : Left (joined rows) all was here start to) where
+  row_first : joined rows ≡ take 93 row ++ joined rows'
+  unfolding joined
+  row_first = ap joined e ∙ ap (λ r. r ++ joined rows') (sym (take_all 93 row (omega arith)))
 
-  row_here : line.row ≡ row_of_line bank number (drop at lines)
-  row_here = p.0 ∙ ap (row_of_line bank number) (rest_of lines at)
+  pub row_room : Room all was start → Room (take 93 row) here to
+  row_room r = left_room left (take 93 row) (joined rows') row_first r
 
-  pub long_here : length line.row ≡ 93
-  long_here = ap length row_here ∙ row_long bank b number (drop at lines) (passed_here w h g)
+  pub row_next : {after : List ℕ} {next : ℕ} → Puts (take 93 row) here after to next → Left (joined rows') all was after start next
+  row_next {after} {next} q = left_next left (take 93 row) (joined rows') after next row_first q
 
-  abbrev RowsLeft : ℕ → ℕ → List ℕ → List ℕ → ℕ → ℕ → Type 0
-  RowsLeft k from was here start to = Left (rows_bytes bank k (lines_in (drop from lines))) (rows_bytes bank 1 (lines_in lines)) was here start to
-
-  step : rows_bytes bank number (lines_in (drop at lines)) ≡ take 93 line.row ++ rows_bytes bank (number + 1) (lines_in (drop (at + line.size) lines))
-  step =
-      let whole : take 93 line.row ≡ row_of_line bank number (drop at lines) = take_all 93 line.row (omega (arith, long_here)) ∙ row_here in
-      rows_next bank lines number at line.size h size_here
-      ∙ ap (λ r. r ++ rows_bytes bank (number + 1) (lines_in (drop (at + line.size) lines))) (sym whole)
-
-  module _ {was here : List ℕ} {start to : ℕ} (left : RowsLeft number at was here start to) where
-    pub row_room : Room (rows_bytes bank 1 (lines_in lines)) was start → Room (take 93 line.row) here to
-    row_room r = left_room left (take 93 line.row) (rows_bytes bank (number + 1) (lines_in (drop (at + line.size) lines))) step r
-
-    pub row_next : {after : List ℕ} {next : ℕ} → Puts (take 93 line.row) here after to next → RowsLeft (number + 1) (at + line.size) was after start next
-    row_next {after} {next} q = left_next left (take 93 line.row) (rows_bytes bank (number + 1) (lines_in (drop (at + line.size) lines))) after next step q
+pub rows_end : {rows : List (List ℕ)} {all was here : List ℕ} {start to : ℕ} → rows ≡ [] → Left (joined rows) all was here start to → Puts all was here start to
+unfolding joined
+rows_end e left = left_end left (ap joined e)
 
 -- ---- the table
 

@@ -1,22 +1,23 @@
 -- The table that imported lines become: how long it is, where its parts stand, and what its counts say.
 -- Assumes that the two rows have their lengths and that no line has a fault.
-use Prim.Native.Nat.{ℕ, zero, suc, ◌+◌, ◌*◌, ◌^◌, ◌<◌, ◌≤◌}
-use native.Mathlib.Nat.{add-zero, le_of_suc-le-suc}
+use Rattle.std.specs.Prelude.{Ok, Err}
+use Prim.Native.Nat.{ℕ, suc, ◌+◌, ◌*◌, ◌^◌, ◌<◌, ◌≤◌}
 use native.Mathlib.Omega.{arith}
 use mathlib.Core.Path.{◌≡◌, refl, sym, ap, ◌∙◌}
+use mathlib.Core.Bool.{false}
 use mathlib.Core.List.{List, [], ◌∷◌, ◌++◌, map, append_assoc, append-nil}
 use lib.Dec.{eqb, lit<}
 use lib.ListN.{length, get_or, take, drop, length-append, length-drop, length-map}
-use lib.Seq.{take_all, take_at, drop_at, drop-drop, drop-append-add, length-take-le}
+use lib.Seq.{take_all, drop-append-add, length-take-le}
 use Rattle.text.specs.Decimal.{pick, render}
 use Rattle.text.specs.Rows.{joined, section}
 use Rattle.text.specs.Widths.{AllLong}
 use Rattle.text.proofs.DecimalLaws.{length_render}
-use Rattle.text.proofs.RowLaws.{length_joined, rows_joined_rest, get_d_rows, section_count, section_rest}
-use Rattle.layout.specs.declared.Answer.{Answer}
-use Rattle.check_record.specs.declared.Verdict.{Verdict}
+use Rattle.text.proofs.RowLaws.{length_joined, section_count, section_rest}
+use Rattle.check_order.specs.Order.{takes_addendum}
+use Rattle.check_record.specs.Verdict.{Verdict}
 use Rattle.view.specs.View.{Entry, View}
-use Rattle.view.specs.Table.{count_wide, file_wide, head_wide, batch_wide, entry_wide, batch_row, table_bytes, count_of, batch_part, entry_part, addendum_part, addenda_due}
+use Rattle.view.specs.Table.{count_wide, file_wide, head_wide, batch_wide, entry_wide, batch_row, table_bytes, count_of, batch_part, entry_part, addendum_part}
 use Rattle.view.specs.Sized.{All, SizedEntry, Sized}
 use Rattle.view_laws.proofs.Answers.{not_granted}
 use Rattle.view_laws.proofs.Tables.{texts_in, rows_of_entries, entry_sections, entry_part_lem}
@@ -29,14 +30,14 @@ use Rattle.csv_import.specs.WorkListing.{front_bytes, batch_bytes, head_bytes, r
 -- ---- the lines, one by one
 
 -- where no line has a fault the first has none, nor have those behind it
-pub first_passed : (k : ℕ) (l : List ℕ) (ls : List (List ℕ)) → lines_answer k (l ∷ ls) ≡ Answer.Granted
-    → (line_verdict l ≡ Verdict.Passed) × (lines_answer (k + 1) ls ≡ Answer.Granted)
+pub first_passed : (k : ℕ) (l : List ℕ) (ls : List (List ℕ)) → lines_answer k (l ∷ ls) ≡ Ok tt
+    → (line_verdict l ≡ Ok tt) × (lines_answer (k + 1) ls ≡ Ok tt)
 unfolding lines_answer
 first_passed k l ls e = go (line_verdict l) e
   where
-    go : (v : Verdict) → line_answer v k (lines_answer (k + 1) ls) ≡ Answer.Granted → (v ≡ Verdict.Passed) × (lines_answer (k + 1) ls ≡ Answer.Granted)
-    go Verdict.Passed f = (refl, f)
-    go (Verdict.Failed fault j) f = not_granted f
+    go : (v : Verdict) → line_answer v k (lines_answer (k + 1) ls) ≡ Ok tt → (v ≡ Ok tt) × (lines_answer (k + 1) ls ≡ Ok tt)
+    go (Ok _) f = (refl, f)
+    go (Err wrong) f = not_granted f
 
 pub entries_many : (bank : List ℕ) (k : ℕ) (ls : List (List ℕ)) → length (entries_of_lines bank k ls) ≡ length ls
 unfolding entries_of_lines
@@ -51,15 +52,6 @@ unfolding entries_of_lines
 no_addenda bank k [] = refl
 no_addenda bank k (l ∷ ls) = no_addenda bank (k + 1) ls
 
--- line j of those that begin with line k
-row_at : (bank : List ℕ) (k : ℕ) (ls : List (List ℕ)) (j : ℕ) → j < length ls → get_or (rows_of bank k ls) j [] ≡ row_of_line bank (k + j) (get_or ls j [])
-unfolding entries_of_lines
-row_at bank k [] j h = absurd (omega arith)
-row_at bank k (l ∷ ls) zero h = ap (λ n. row_of_line bank n l) (sym (add-zero k))
-row_at bank k (l ∷ ls) (suc j) h =
-    let n : k + 1 + j ≡ k + suc j = omega arith in
-    row_at bank (k + 1) ls j (le_of_suc-le-suc h) ∙ ap (λ m. row_of_line bank m (get_or ls j [])) n
-
 -- ---- their sizes
 
 -- the part of a row that no line holds
@@ -68,37 +60,46 @@ unfolding joined
 rest_long bank k l = omega (arith, length-append bank (render 7 k ++ []), length-append (render 7 k) [], length_render 7 k)
 
 -- its column 79 is '0'
-none_due : (bank : List ℕ) (k : ℕ) (six : List ℕ) → length six ≡ 75 → addenda_due (six ++ rest_of_row bank k) ≡ 0
+none_due : (bank : List ℕ) (k : ℕ) (six : List ℕ) → length six ≡ 75 → takes_addendum (54 ∷ (six ++ rest_of_row bank k)) ≡ false
 unfolding joined
 none_due bank k six l =
     let at : 77 ≡ length six + 2 = omega arith in
     let flag : drop 77 (six ++ rest_of_row bank k) ≡ drop 2 (rest_of_row bank k) =
     ap (λ n. drop n (six ++ rest_of_row bank k)) at ∙ drop-append-add six (rest_of_row bank k) 2 in
-    ap (λ r. pick (eqb (get_or (take 1 r) 0 0) 49) 1 0) flag
+    ap (λ r. eqb (get_or (take 1 r) 0 0) 49) flag
+
+-- so the entry takes no addendum
+plain_row : (bank : List ℕ) (k : ℕ) (xs : List ℕ) → line_verdict xs ≡ Ok tt → takes_addendum (54 ∷ row_of_line bank k xs) ≡ false
+plain_row bank k xs e = none_due bank k (joined (all_columns 1 (six_texts xs))) (six_long xs (line_passed xs e).1)
+
+pub plain_rows : (bank : List ℕ) (k : ℕ) (ls : List (List ℕ)) → lines_answer k ls ≡ Ok tt → All (λ row. takes_addendum (54 ∷ row) ≡ false) (rows_of bank k ls)
+unfolding entries_of_lines
+plain_rows bank k [] e = tt
+plain_rows bank k (l ∷ ls) e = let p = first_passed k l ls e in (plain_row bank k l p.0, plain_rows bank (k + 1) ls p.1)
 
 module _ (bank : List ℕ) (b : length bank ≡ 8) where
-  pub row_long : (k : ℕ) (xs : List ℕ) → line_verdict xs ≡ Verdict.Passed → length (row_of_line bank k xs) ≡ entry_wide
+  pub row_long : (k : ℕ) (xs : List ℕ) → line_verdict xs ≡ Ok tt → length (row_of_line bank k xs) ≡ entry_wide
   row_long k xs e =
       let six = joined (all_columns 1 (six_texts xs)) in
       length-append six (rest_of_row bank k) ∙ omega (arith, six_long xs (line_passed xs e).1, rest_long bank k b)
 
-  entry_sized : (k : ℕ) (xs : List ℕ) → line_verdict xs ≡ Verdict.Passed → SizedEntry (record { row = row_of_line bank k xs; addenda = [] })
+  entry_sized : (k : ℕ) (xs : List ℕ) → line_verdict xs ≡ Ok tt → SizedEntry (record { row = row_of_line bank k xs; addenda = [] })
   entry_sized k xs e =
       record {
         long = row_long k xs e;
         texts = tt;
-        due = sym (none_due bank k (joined (all_columns 1 (six_texts xs))) (six_long xs (line_passed xs e).1));
+        due = sym (ap (λ y. pick y 1 0) (plain_row bank k xs e));
       }
 
-  entries_sized : (k : ℕ) (ls : List (List ℕ)) → lines_answer k ls ≡ Answer.Granted → All SizedEntry (entries_of_lines bank k ls)
+  entries_sized : (k : ℕ) (ls : List (List ℕ)) → lines_answer k ls ≡ Ok tt → All SizedEntry (entries_of_lines bank k ls)
   unfolding entries_of_lines
   entries_sized k [] e = tt
   entries_sized k (l ∷ ls) e = let p = first_passed k l ls e in (entry_sized k l p.0, entries_sized (k + 1) ls p.1)
 
-  rows_long : (k : ℕ) (ls : List (List ℕ)) → lines_answer k ls ≡ Answer.Granted → AllLong entry_wide (rows_of bank k ls)
+  rows_long : (k : ℕ) (ls : List (List ℕ)) → lines_answer k ls ≡ Ok tt → AllLong entry_wide (rows_of bank k ls)
   rows_long k ls e = rows_of_entries (entries_of_lines bank k ls) (entries_sized k ls e)
 
-  rows_size : (k : ℕ) (ls : List (List ℕ)) → lines_answer k ls ≡ Answer.Granted → length (rows_bytes bank k ls) ≡ 93 * length ls
+  rows_size : (k : ℕ) (ls : List (List ℕ)) → lines_answer k ls ≡ Ok tt → length (rows_bytes bank k ls) ≡ 93 * length ls
   rows_size k ls e = length_joined entry_wide (rows_of bank k ls) (rows_long k ls e) ∙ ap (λ n. 93 * n) (rows_many bank k ls)
 
 -- ---- the table of one batch whose entries have no addenda
@@ -169,26 +170,7 @@ module _ (filerow batchrow lines : List ℕ) where
         let d = render count_wide n in
         omega (arith, length-append (front_bytes filerow) (batch_bytes batchrow n ++ d), length-append (batch_bytes batchrow n) d, front_long, batch_long n, length_render count_wide n)
 
-    -- the file row, and the batch row with its number of entries
-    pub file_at : take 85 (drop 6 (import_table filerow batchrow lines)) ≡ filerow
-    file_at =
-        let one = render count_wide 1 in
-        let row = take file_wide filerow in
-        let batch = batch_bytes batchrow many ++ render count_wide many in
-        ap (λ t. take 85 (drop 6 t)) (table_form ∙ append_assoc (front_bytes filerow) batch behind_head ∙ append_assoc one (row ++ one) (batch ++ behind_head))
-        ∙ ap (take 85) (drop_at one ((row ++ one) ++ (batch ++ behind_head)) 6 (length_render count_wide 1) ∙ append_assoc row one (batch ++ behind_head))
-        ∙ take_at row (one ++ (batch ++ behind_head)) 85 (ap length file_whole ∙ f)
-        ∙ file_whole
-
-    pub batch_at_lem : take 95 (drop 97 (import_table filerow batchrow lines)) ≡ take 89 batchrow ++ render 6 (length (lines_in lines))
-    batch_at_lem =
-        let d = render count_wide many in
-        let batch = batch_bytes batchrow many in
-        ap (λ t. take 95 (drop 97 t)) (table_form ∙ append_assoc (front_bytes filerow) (batch ++ d) behind_head)
-        ∙ ap (take 95) (drop_at (front_bytes filerow) ((batch ++ d) ++ behind_head) 97 front_long ∙ append_assoc batch d behind_head)
-        ∙ take_at batch (d ++ behind_head) 95 (batch_long many)
-
-    module _ (g : lines_answer 1 (lines_in lines) ≡ Answer.Granted) where
+    module _ (g : lines_answer 1 (lines_in lines) ≡ Ok tt) where
       all_long : AllLong entry_wide (rows_of bank 1 (lines_in lines))
       all_long = rows_long bank bank_long 1 (lines_in lines) g
 
@@ -196,19 +178,6 @@ module _ (filerow batchrow lines : List ℕ) where
       table_long =
           ap length table_form
           ∙ omega (arith, length-append (head_bytes filerow batchrow many) behind_head, length-append (rows_bytes bank 1 (lines_in lines)) (render count_wide 0), head_long many, rows_size bank bank_long 1 (lines_in lines) g, length_render count_wide 0)
-
-      -- the row of each line, the first of which has the number 1
-      pub entry_at_lem : (k : ℕ) → k < length (lines_in lines)
-          → take 93 (drop (198 + 93 * k) (import_table filerow batchrow lines)) ≡ row_of_line (bank_in batchrow) (k + 1) (get_or (lines_in lines) k [])
-      entry_at_lem k h =
-          let rs = rows_of bank 1 (lines_in lines) in
-          let number : 1 + k ≡ k + 1 = omega arith in
-          ap (λ t. take 93 (drop (198 + 93 * k) t)) table_form
-          ∙ ap (take 93) (sym (drop-drop (93 * k) 198 (head_bytes filerow batchrow many ++ behind_head)) ∙ ap (drop (93 * k)) (drop_at (head_bytes filerow batchrow many) behind_head 198 (head_long many)))
-          ∙ sym (get_d_rows entry_wide (length rs) behind_head k (omega (arith, rows_many bank 1 (lines_in lines))))
-          ∙ ap (λ l. get_or l k []) (rows_joined_rest entry_wide rs (render count_wide 0) all_long)
-          ∙ row_at bank 1 (lines_in lines) k h
-          ∙ ap (λ m. row_of_line bank m (get_or (lines_in lines) k [])) number
 
       module _ (few : length (lines_in lines) ≤ 999999) where
         pub import_sized : Sized (import_view filerow batchrow lines)

@@ -1,2 +1,1 @@
 pub mod WorkListing
-pub mod WorkFollowing

@@ -1,5 +1,6 @@
 -- An entry's addendum in its file.
 -- Assumes nothing.
+use Rattle.std.specs.Prelude.{Ok, Err}
 use mathlib.Core.Path.{◌≡◌, refl, sym, ap, ◌∙◌, subst}
 use mathlib.Core.Bool.{Bool, true, false, ◌&&◌}
 use mathlib.Core.List.{List, [], ◌∷◌, append-nil}
@@ -13,7 +14,7 @@ use Rattle.text.proofs.DecimalLaws.{and_both}
 use Rattle.text.proofs.RowLaws.{get_d_columns}
 use Rattle.text.specs.Rows.{joined}
 use Rattle.text.specs.Widths.{AllLong}
-use Rattle.layout.specs.declared.Answer.{Answer}
+use Rattle.layout.specs.Answers.{Answer}
 use Rattle.layout.specs.declared.Refusal.{Refusal}
 use Rattle.layout.specs.declared.Fault.{Fault}
 use Rattle.check_order.specs.Order.{takes_addendum}
@@ -45,28 +46,28 @@ pub asked_answer : (way : Way) (f : List ℕ) (k : ℕ) → asked_of (checked_of
 asked_answer way f k = go (checked_of way f).answer refl
   where
     exist : ℕ → Answer
-    exist n = demand (leb 1 k && leb k n) (refusal Fault.NoEntry 0 0) Answer.Granted
+    exist n = demand (leb 1 k && leb k n) (refusal Fault.NoEntry 0 0) (Ok tt)
 
     go : (a : Answer) → (checked_of way f).answer ≡ a → and_then a (exist (checked_of way f).entries) ≡ and_then a (exist (length (entries_of (view_of way f))))
-    go Answer.Granted e = ap exist (own_entries way f e).entries
-    go (Answer.Refused r) e = refl
+    go (Ok _) e = ap exist (own_entries way f e).entries
+    go (Err r) e = refl
 
 -- it is granted where there is such an entry
-pub granted_there : (way : Way) (f : List ℕ) (k : ℕ) → addendum_answer way f k ≡ Answer.Granted → There way f k
+pub granted_there : (way : Way) (f : List ℕ) (k : ℕ) → addendum_answer way f k ≡ Ok tt → There way f k
 granted_there way f k = go (checked_of way f).answer refl
   where
     exist : Bool → Answer
-    exist t = demand t (refusal Fault.NoEntry 0 0) Answer.Granted
+    exist t = demand t (refusal Fault.NoEntry 0 0) (Ok tt)
 
-    exists : (t : Bool) → exist t ≡ Answer.Granted → t ≡ true
+    exists : (t : Bool) → exist t ≡ Ok tt → t ≡ true
     exists true e = refl
     exists false e = cc
 
-    go : (a : Answer) → (checked_of way f).answer ≡ a → and_then a (exist (leb 1 k && leb k (length (entries_of (view_of way f))))) ≡ Answer.Granted → There way f k
-    go Answer.Granted e g =
+    go : (a : Answer) → (checked_of way f).answer ≡ a → and_then a (exist (leb 1 k && leb k (length (entries_of (view_of way f))))) ≡ Ok tt → There way f k
+    go (Ok _) e g =
         let b = and_both (leb 1 k) (leb k (length (entries_of (view_of way f)))) (exists _ g) in
         record { accepted = e; first = leb-true 1 k b.0; last = leb-true k (length (entries_of (view_of way f))) b.1 }
-    go (Answer.Refused r) e g = absurd (let z : ◌≡◌ {A = ℕ} 0 1 = cc in omega arith)
+    go (Err r) e g = absurd (let z : ◌≡◌ {A = ℕ} 0 1 = cc in omega arith)
 
 -- ---- the part
 
@@ -79,7 +80,7 @@ module _ (way : Way) (f : List ℕ) (k i : ℕ) (t : There way f k) (at : EntryA
       sized.due
       ∙ ap (λ n. pick (eqb n 49) 1 0) (get_d_columns 79 79 (entry_record (entry_at v k)) 0 (omega arith) ∙ ap (λ r. get_or r 78 0) (sym (entry_text way f k t i at)) ∙ record_byte way f i (omega (arith, counted way (length f) (i + 2) at.inside)) 78 (lit< tt))
 
-  part_is : addendum_answer way f k ≡ Answer.Granted → addendum_of way f k ≡ pick (ltb 0 (pick (eqb (get_or f (record_bytes way * i + 78) 0) 49) 1 0)) (record { from = record_bytes way * i + record_bytes way + 3; size = 80 }) no_part
+  part_is : addendum_answer way f k ≡ Ok tt → addendum_of way f k ≡ pick (ltb 0 (pick (eqb (get_or f (record_bytes way * i + 78) 0) 49) 1 0)) (record { from = record_bytes way * i + record_bytes way + 3; size = 80 }) no_part
   part_is e =
       let v = view_of way f in
       let from : record_bytes way * entry_number (spot_of v k) + 3 ≡ record_bytes way * i + record_bytes way + 3 = ap (λ n. n + 3) (ap (λ n. record_bytes way * n) (sym at.number) ∙ sym (on way i)) in
@@ -88,14 +89,14 @@ module _ (way : Way) (f : List ℕ) (k i : ℕ) (t : There way f k) (at : EntryA
       ∙ ap (λ n. pick (ltb 0 (pick (eqb (get_or f (record_bytes way * i + 78) 0) 49) 1 0)) (record { from = n; size = 80 }) no_part) from
 
   -- columns 4-83 of the record behind it
-  pub part_there : addendum_answer way f k ≡ Answer.Granted → get_or f (record_bytes way * i + 78) 0 ≡ 49 → addendum_of way f k ≡ record { from = record_bytes way * i + record_bytes way + 3; size = 80 }
+  pub part_there : addendum_answer way f k ≡ Ok tt → get_or f (record_bytes way * i + 78) 0 ≡ 49 → addendum_of way f k ≡ record { from = record_bytes way * i + record_bytes way + 3; size = 80 }
   part_there e h = part_is e ∙ rw (eq-eqb (get_or f (record_bytes way * i + 78) 0) 49 h)
 
   -- or none
-  pub part_none : addendum_answer way f k ≡ Answer.Granted → (get_or f (record_bytes way * i + 78) 0 ≡ 49 → ⊥) → addendum_of way f k ≡ no_part
+  pub part_none : addendum_answer way f k ≡ Ok tt → (get_or f (record_bytes way * i + 78) 0 ≡ 49 → ⊥) → addendum_of way f k ≡ no_part
   part_none e h = part_is e ∙ rw (ne_eqb (get_or f (record_bytes way * i + 78) 0) 49 h)
 
-pub part_refused : (way : Way) (f : List ℕ) (k : ℕ) (r : Refusal) → addendum_answer way f k ≡ Answer.Refused r → addendum_of way f k ≡ no_part
+pub part_refused : (way : Way) (f : List ℕ) (k : ℕ) (r : Refusal) → addendum_answer way f k ≡ Err r → addendum_of way f k ≡ no_part
 part_refused way f k r e = ap (λ a. part_if a (addendum_part_of (entry_at (view_of way f) k) (record_bytes way * entry_number (spot_of (view_of way f) k)))) e
 
 -- the record behind an entry's, in the file
@@ -111,14 +112,14 @@ pub part_inside : (way : Way) (f : List ℕ) (k : ℕ) → (addendum_of way f k)
 part_inside way f k = go (addendum_answer way f k) refl
   where
     go : (a : Answer) → addendum_answer way f k ≡ a → Inside f (addendum_of way f k)
-    go Answer.Granted e =
+    go (Ok _) e =
         let t = granted_there way f k e in
         let i = nth_of 54 (k - 1) (columns_in way f) in
         let at = entry_at_lem way f k t i (omega arith) in
         by_eq (get_or f (record_bytes way * i + 78) 0) 49
         (λ h. subst (Inside f) (sym (part_there way f k i t at e h)) (omega (arith, behind way (length f) i at.inside)))
         (λ h. subst (Inside f) (sym (part_none way f k i t at e (eqb-false (get_or f (record_bytes way * i + 78) 0) 49 h))) (omega arith))
-    go (Answer.Refused r) e = subst (Inside f) (sym (part_refused way f k r e)) (omega arith)
+    go (Err r) e = subst (Inside f) (sym (part_refused way f k r e)) (omega arith)
 
 -- a part is told by its two numbers
 pub both : {p q : Part} → p ≡ q → (q.from ≡ p.from) × (q.size ≡ p.size)
@@ -148,7 +149,7 @@ module _ (way : Way) (f : List ℕ) (k : ℕ) (t : There way f k) where
       ∙ fields.whole
 
   -- so the part that is handed back is the entry's addendum, or empty where it has none
-  pub handed : addendum_answer way f k ≡ Answer.Granted → take (addendum_of way f k).size (drop (addendum_of way f k).from f) ≡ joined (entry_at (view_of way f) k).addenda
+  pub handed : addendum_answer way f k ≡ Ok tt → take (addendum_of way f k).size (drop (addendum_of way f k).from f) ≡ joined (entry_at (view_of way f) k).addenda
   unfolding joined
   handed g = ap (λ a. cut (part_if a (place (entry_at (view_of way f) k).addenda))) g ∙ go (entry_at (view_of way f) k).addenda refl
     where

@@ -39,10 +39,6 @@ pub starts : (way : Way) (n i : ℕ) → i ≤ n / record_bytes way → record_b
 starts Way.Plain n i h = omega arith
 starts Way.Lined n i h = omega arith
 
-pub once : (way : Way) (i : ℕ) → i ≤ record_bytes way * i
-once Way.Plain i = omega arith
-once Way.Lined i = omega arith
-
 pub counted : (way : Way) (n i : ℕ) → record_bytes way * i ≤ n → i ≤ n / record_bytes way
 counted Way.Plain n i h = omega arith
 counted Way.Lined n i h = omega arith
@@ -60,10 +56,10 @@ columns_are way f i h =
     head ∙ ap (take 94) (get_d_rows w n f i h) ∙ take-take 94 w (drop (w * i) f) (omega arith)
 
 -- as the code cuts them out
-pub record_cut : (way : Way) (f : List ℕ) (i w : ℕ) → w ≡ record_bytes way → record_bytes way * (i + 1) ≤ length f → take (w * i + 94 - w * i) (drop (w * i) f) ≡ get_or (columns_in way f) i []
+pub record_cut : (way : Way) (f : List ℕ) (i w : ℕ) → w ≡ record_bytes way → record_bytes way * (i + 1) ≤ length f → take 94 (drop (w * i) f) ≡ get_or (columns_in way f) i []
 record_cut way f i w e h =
     let inside : i < length f / record_bytes way = omega (arith, counted way (length f) (i + 1) h) in
-    rw e (cut_out_lem f (record_bytes way * i) 94 ∙ sym (columns_are way f i inside))
+    rw e (sym (columns_are way f i inside))
 
 -- a byte of it, and n bytes of it from o on
 module _ (way : Way) (f : List ℕ) (i : ℕ) (h : i < length f / record_bytes way) where

@@ -1,3 +1,4 @@
+pub mod AskedSpan
 pub mod WorkAsked
 pub mod WorkFind
 pub mod WorkThere

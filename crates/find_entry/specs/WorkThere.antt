@@ -1,6 +1,6 @@
 -- Where the three records of an alteration stand in a file.
+use Rattle.std.specs.Prelude.{Ok}
 use Rattle.std.specs.Prelude.{ℕ, ◌+◌, ◌*◌, ◌≤◌, ◌<◌, ◌≡◌, List, length}
-use Rattle.layout.specs.declared.Answer.{Answer}
 use Rattle.check_record.specs.Record.{checked_of}
 use Rattle.view.specs.View.{entries_of, view_of}
 use Rattle.view.specs.Outcome.{spot_of, entry_number, batch_control_number, file_control_number}
@@ -10,7 +10,7 @@ use Rattle.layout.specs.Ways.{record_bytes}
 
 -- the file is accepted, and has an entry k
 pub record There (way : Way) (f : List ℕ) (k : ℕ) : Type 0 where
-  pub accepted : (checked_of way f).answer ≡ Answer.Granted
+  pub accepted : (checked_of way f).answer ≡ Ok tt
   pub first : 1 ≤ k
   pub last : k ≤ length (entries_of (view_of way f))
 

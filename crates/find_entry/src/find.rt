@@ -21,21 +21,16 @@ pub fn nth(way: Way, file: &[u8], from: usize, byte: u8, k: u64) -> usize
     ensures { result ≡ from + nth_of byte k (drop from (columns_in way file.now)) }
 {
     let wide = layout::record_bytes(way);
-    let count = file.len() / wide;
     let mut left = k;
-    let mut i = from;
-    let mut at = wide * from;
-    while i < count {
-        if file[at] == byte {
+    for (i, rec) in file[wide * from..].chunks_exact(wide).enumerate() {
+        if rec[0] == byte {
             if left == 0 {
-                return i;
+                return from + i;
             }
             left -= 1;
         }
-        i += 1;
-        at += layout::record_bytes(way);
     }
-    i
+    file.len() / wide
 }
 
 // Entry numbers count the records 6 from 1.

@@ -17,7 +17,7 @@ use Rattle.view_laws.proofs.BridgeSums.{entries_records}
 use Rattle.view_laws.proofs.Lists.{fold_append, sum_append}
 use Rattle.view_laws.proofs.Tables.{entries_in}
 use Rattle.find_entry.proofs.Places.{length_entries}
-use Rattle.funds.specs.declared.RunsOut.{RunsOut}
+use Rattle.funds.specs.RunsOut.{RunsOut}
 use Rattle.funds.specs.Funds.{runs_out_from, runs_out, rows_from, rows_of}
 use Rattle.funds.specs.Summed.{credits_to, control_at, summed_from, summed, FirstOver, NoneOver}
 

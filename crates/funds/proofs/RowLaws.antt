@@ -1,5 +1,6 @@
 -- The list of a file: how long it is, and that the records of an accepted file tell it.
 -- Assumes nothing but what a statement says.
+use Rattle.std.specs.Prelude.{Ok}
 use mathlib.Core.Path.{◌≡◌, refl, ap, ◌∙◌}
 use mathlib.Core.Bool.{true, false}
 use mathlib.Core.List.{List, [], ◌∷◌, ◌++◌, map, append_assoc}
@@ -11,7 +12,6 @@ use lib.ListN.{length, get_or, replicate}
 use Rattle.text.specs.Decimal.{value}
 use Rattle.text.specs.Rows.{joined}
 use Rattle.text.proofs.DecimalLaws.{value_render_lt}
-use Rattle.layout.specs.declared.Answer.{Answer}
 use Rattle.layout.specs.declared.Way.{Way}
 use Rattle.check_record.specs.Record.{columns_in, checked_of}
 use Rattle.view.specs.View.{Entry, Batch, View, file_record, entry_record, addendum_record, batch_record, batch_control_record, file_control_record, filler_record, fillers_after, body_of, sum_over, records_in, credit_of, view_of}
@@ -99,7 +99,7 @@ along_fillers n sum zero = refl
 along_fillers n sum (suc k) = other n sum filler_record (replicate k filler_record) refl ∙ along_fillers (n + 1) sum k
 
 -- the records of an accepted file tell its list
-pub rows_told : (way : Way) (f : List ℕ) → (checked_of way f).answer ≡ Answer.Granted → rows_along 1 0 (columns_in way f) ≡ rows_of (view_of way f)
+pub rows_told : (way : Way) (f : List ℕ) → (checked_of way f).answer ≡ Ok tt → rows_along 1 0 (columns_in way f) ≡ rows_of (view_of way f)
 rows_told way f g =
     let v = view_of way f in
     let a = accepted_view way f g in

@@ -4,7 +4,7 @@ use Rattle.text.specs.Decimal.{pick, value}
 use Rattle.layout.specs.declared.Way.{Way}
 use Rattle.layout.specs.Fields.{batch_control, part}
 use Rattle.view.specs.View.{Batch, View, sum_over, records_in, credit_of, view_of}
-use Rattle.funds.specs.declared.RunsOut.{RunsOut}
+use Rattle.funds.specs.RunsOut.{RunsOut}
 
 -- ---- the list of a file
 

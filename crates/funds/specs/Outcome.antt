@@ -1,8 +1,9 @@
 -- What a question gives and leaves with a list lent, and what checking does.
+use Rattle.std.specs.Prelude.{Ok, Err}
 use Rattle.std.specs.Prelude.{ℕ, List, length}
 use Rattle.layout.specs.declared.Fault.{Fault}
-use Rattle.layout.specs.declared.Answer.{Answer}
-use Rattle.layout.specs.declared.Checked.{Checked}
+use Rattle.layout.specs.Answers.{Answer}
+use Rattle.layout.specs.Answers.{Checked}
 use Rattle.layout.specs.declared.Way.{Way}
 use Rattle.check_record.specs.Record.{refused, checked_of}
 use Rattle.view.specs.View.{View, view_of}
@@ -12,18 +13,18 @@ use Rattle.funds.specs.Funds.{rows_of, in_front, enough_rows}
 
 -- what a lent list holds afterwards: on a grant this file's list and what stood behind it; a refusal leaves it
 abbrev pub relisted : Answer → View → List ℕ → List ℕ
-relisted Answer.Granted v held = in_front (rows_of v) held
-relisted (Answer.Refused r) v held = held
+relisted (Ok _) v held = in_front (rows_of v) held
+relisted (Err r) v held = held
 
 -- "checking is granted exactly if the file is accepted as demand 2 says and the list has room"; "23, last, where the list .. is too short"
 abbrev pub check_answer : Way → List ℕ → List ℕ → Answer
 check_answer way f held =
-    and_then (checked_of way f).answer (demand (enough_rows (view_of way f) (length held)) (refusal Fault.Room 0 0) Answer.Granted)
+    and_then (checked_of way f).answer (demand (enough_rows (view_of way f) (length held)) (refusal Fault.Room 0 0) (Ok tt))
 
 -- no acceptance is given with a refusal: every number is 0
 abbrev pub given : Answer → Checked → Checked
-given Answer.Granted c = c
-given (Answer.Refused r) c = refused r.fault r.record.0 r.field
+given (Ok _) c = c
+given (Err r) c = refused r.fault r.record.0 r.field
 
 abbrev pub check_of : Way → List ℕ → List ℕ → Outcome Checked
 check_of way f held =

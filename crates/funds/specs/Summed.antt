@@ -2,7 +2,7 @@
 use Rattle.std.specs.Prelude.{ℕ, zero, suc, ◌+◌, ◌≤◌, ◌<◌, ◌*◌, ◌/◌, ◌≡◌, true, List, ltb, length, take, get_or}
 use Rattle.text.specs.Decimal.{pick}
 use Rattle.view.specs.View.{View, sum_over, credit_of, entries_of, body_of}
-use Rattle.funds.specs.declared.RunsOut.{RunsOut}
+use Rattle.funds.specs.RunsOut.{RunsOut}
 use Rattle.funds.specs.Funds.{not_found}
 
 -- the file up to the end of its batch n, from 1

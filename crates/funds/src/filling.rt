@@ -1,15 +1,16 @@
 // The list of a file, put into lent numbers or compared with them, and the check that gives it along.
 ghost use Rattle.std.specs.Prelude.{◌+◌, ◌*◌, ◌≤◌, ◌≡◌, [], length, get_or};
-ghost use Rattle.layout.specs.declared.Answer.{Answer};
+ghost use Rattle.std.specs.Iterator.{at_most};
+ghost use Rattle.layout.specs.Answers.{checked_as};
 ghost use Rattle.layout.specs.Ways.{record_bytes};
 ghost use Rattle.check_record.specs.Record.{columns_in, checked_of};
 ghost use Rattle.view.specs.View.{view_of};
 ghost use Rattle.funds.specs.Funds.{rows_of, control_credit, in_front, true_list};
+ghost use Rattle.funds.specs.WorkRows.{left_of, Walked, RowTaken};
 ghost use Rattle.funds.specs.Outcome.{check_of};
 
-use check_record::outcome;
 use find_entry::find;
-use layout::{Answer, Checked, Fault, Way};
+use layout::{Acceptance, Answer, Fault, Refusal, Way};
 
 // The total of credits in the record 8 at this index.
 fn control_credit(way: Way, file: &[u8], i: usize) -> u64
@@ -20,65 +21,84 @@ fn control_credit(way: Way, file: &[u8], i: usize) -> u64
     text::number(&file[at..at + 12])
 }
 
+// The rows of an accepted file's list, from the first on: of each batch the number of its control, and the credits so far.
+#[derive(Drop)]
+struct Rows<'a> {
+    way: Way,
+    file: &'a [u8],
+    // how many records were looked at, and the credits of those
+    seen: usize,
+    credits: u64,
+    ghost walked: { Walked way file.now seen credits },
+}
+
+impl<'a> Rows<'a> {
+    fn of(way: Way, file: &'a [u8]) -> Rows<'a>
+        requires { (checked_of way file.now).answer ≡ Ok tt }
+        ensures { left_of result.way result.file.now result.seen result.credits ≡ rows_of (view_of way file.now) }
+    {
+        Rows {
+            way,
+            file,
+            seen: 0,
+            credits: 0,
+        }
+    }
+}
+
+impl<'a> Iterator for Rows<'a> {
+    type Item = [u64; 2];
+
+    ghost next_gives = { λ s r t. RowTaken (left_of s.way s.file.now s.seen s.credits) r (left_of t.way t.file.now t.seen t.credits) };
+
+    ghost remaining = { λ s. at_most (length (left_of s.way s.file.now s.seen s.credits)) };
+
+    fn next(&mut self) -> Option<[u64; 2]> {
+        let i = find::nth(self.way, self.file, self.seen, b'8', 0);
+        if i == self.file.len() / layout::record_bytes(self.way) {
+            return None;
+        }
+        self.credits += control_credit(self.way, self.file, i);
+        self.seen = i + 1;
+        Some([self.seen as u64, self.credits])
+    }
+}
+
 // Puts the list of an accepted file to the front of the lent numbers, which have room for it.
 pub fn fill(way: Way, file: &[u8], rows: &mut [u64])
-    requires { ((checked_of way file.now).answer ≡ Answer.Granted) × (length (rows_of (view_of way file.now)) ≤ length rows.old) }
+    requires { ((checked_of way file.now).answer ≡ Ok tt) × (length (rows_of (view_of way file.now)) ≤ length rows.old) }
     ensures { rows.new ≡ in_front (rows_of (view_of way file.now)) rows.old }
 {
-    let count = file.len() / layout::record_bytes(way);
-    let mut credits = 0;
     let mut put = 0;
-    let mut i = find::nth(way, file, 0, b'8', 0);
-    while i < count {
-        credits += control_credit(way, file, i);
-        rows[put] = i as u64 + 1;
-        rows[put + 1] = credits;
+    for row in Rows::of(way, file) {
+        rows[put..put + 2].copy_from_slice(&row);
         put += 2;
-        i = find::nth(way, file, i + 1, b'8', 0);
     }
 }
 
 // Whether the lent numbers begin with the list of an accepted file.
-#[tactic(auto, using(crate::proofs::WalkLaws::too_short))]
 pub fn is_true_list(way: Way, file: &[u8], rows: &[u64]) -> bool
-    requires { (checked_of way file.now).answer ≡ Answer.Granted }
+    requires { (checked_of way file.now).answer ≡ Ok tt }
     ensures { result ≡ true_list way file.now rows.now }
 {
-    let count = file.len() / layout::record_bytes(way);
-    let mut credits = 0;
-    let mut seen = 0;
-    let mut i = find::nth(way, file, 0, b'8', 0);
-    while i < count {
-        credits += control_credit(way, file, i);
-        if rows.len() - seen < 2 {
+    let mut held = rows;
+    for row in Rows::of(way, file) {
+        let Some(rest) = held.strip_prefix(&row) else {
             return false;
-        }
-        if rows[seen] != i as u64 + 1 {
-            return false;
-        }
-        if rows[seen + 1] != credits {
-            return false;
-        }
-        seen += 2;
-        i = find::nth(way, file, i + 1, b'8', 0);
+        };
+        held = rest;
     }
     true
 }
 
 // A file is accepted exactly if it keeps the rules; its list goes to the front of the lent numbers, and too few of them are refused last.
-pub fn check(way: Way, file: &[u8], rows: &mut [u64]) -> Checked
-    ensures { (result ≡ (check_of way file.now rows.old).gives) × (rows.new ≡ (check_of way file.now rows.old).leaves) }
+pub fn check(way: Way, file: &[u8], rows: &mut [u64]) -> Answer<Acceptance>
+    ensures { (checked_as result ≡ (check_of way file.now rows.old).gives) × (rows.new ≡ (check_of way file.now rows.old).leaves) }
 {
-    let checked = check_file::check(way, file);
-    let answer = checked.answer;
-    match answer {
-        Answer::Granted => {
-            if ((rows.len() / 2) as u64) < checked.batches {
-                return outcome::refused(Fault::Room, 0, 0);
-            }
-            fill(way, file, rows);
-            checked
-        }
-        Answer::Refused(_) => checked,
+    let accepted = check_file::check(way, file)?;
+    if ((rows.len() / 2) as u64) < accepted.batches {
+        return Err(Refusal::whole(Fault::Room));
     }
+    fill(way, file, rows);
+    Ok(accepted)
 }

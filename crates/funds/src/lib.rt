@@ -3,40 +3,40 @@
 
 ghost use Rattle.std.specs.Prelude.{◌≡◌};
 ghost use Rattle.funds.specs.Funds.{runs_out};
+ghost use Rattle.funds.specs.RunsOut.{runs_out_as};
 
 pub mod filling;
 
-// The first row over a limit: its record number and credits, 0 if none is; rows counts those up to and with it, or all whole rows.
+// The row that is over a limit: its record number and credits.
 #[derive(Clone, Copy)]
-pub struct RunsOut {
-    pub found: bool,
+pub struct Over {
     pub record: u64,
     pub credits: u64,
+}
+
+// Where the money runs out: the first row over a limit, if one is, and the rows up to and with it, or all whole rows.
+#[derive(Clone, Copy)]
+pub struct Funds {
     pub rows: u64,
+    pub over: Option<Over>,
 }
 
 // The question is put to a list and not to the file: any numbers are answered, and a lone one at the end is no row.
-pub fn runs_out(rows: &[u64], limit: u64) -> RunsOut
-    ensures { result ≡ runs_out limit rows.now }
+pub fn runs_out(rows: &[u64], limit: u64) -> Funds
+    ensures { runs_out_as result ≡ runs_out limit rows.now }
 {
-    let whole = rows.len() / 2;
-    let mut k = 0;
-    while k < whole {
-        let credits = rows[2 * k + 1];
-        if limit < credits {
-            return RunsOut {
-                found: true,
-                record: rows[2 * k],
-                credits,
+    let (rows, _) = rows.as_chunks::<2>();
+    match rows.iter().position(|[_, credits]| limit < *credits) {
+        Some(k) => {
+            let [record, credits] = rows[k];
+            Funds {
                 rows: k as u64 + 1,
-            };
+                over: Some(Over { record, credits }),
+            }
         }
-        k += 1;
-    }
-    RunsOut {
-        found: false,
-        record: 0,
-        credits: 0,
-        rows: k as u64,
+        None => Funds {
+            rows: rows.len() as u64,
+            over: None,
+        },
     }
 }

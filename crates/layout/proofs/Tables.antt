@@ -1,16 +1,16 @@
 -- A field table read at a place: inside it the row that stands there, behind it `no_row`; and every row fits.
-use Prim.Native.Nat.{ℕ, zero, suc, ◌+◌, ◌-◌, ◌≤◌, ◌<◌}
+use Prim.Native.Nat.{ℕ, zero, suc, ◌+◌, ◌-◌, ◌≤◌}
 use native.Mathlib.Omega.{arith}
-use native.Mathlib.Nat.{le_of_suc-le-suc, not-suc-le-zero}
-use mathlib.Core.Path.{◌≡◌, refl, sym}
+use mathlib.Core.Path.{◌≡◌, refl}
 use mathlib.Core.Bool.{Bool, true, false, ◌&&◌}
 use mathlib.Core.List.{List, [], ◌∷◌}
 use borrow.Author.Tests.{leb-true}
 use lib.Dec.{leb}
-use lib.ListN.{length, get_or, take, drop, length-take, length-drop, get_or-eq_default}
+use lib.ListN.{length, get_or, take, drop, length-take, length-drop}
 use Rattle.text.specs.Rows.{columns}
 use Rattle.layout.specs.declared.Row.{Row}
-use Rattle.layout.specs.Fields.{no_row}
+use Rattle.layout.specs.declared.Line.{Line}
+use Rattle.layout.specs.Fields.{rows_of, no_row}
 use Rattle.layout.specs.WorkFits.{row_fits, kind_fits}
 
 -- every row of a table fits: computed once for each table
@@ -26,13 +26,25 @@ and_right : (a b : Bool) → a && b ≡ true → b ≡ true
 and_right true b e = e
 and_right false b e = absurd (mathlib.Core.Bool.false≢true e)
 
-pub inside : (rs : List Row) (d : Row) (k : ℕ) → all_fit rs ≡ true → k < length rs → (get_or rs k d ≡ get_or rs k no_row) × (row_fits (get_or rs k d) ≡ true)
-inside [] d k e h = absurd (not-suc-le-zero h)
-inside (r ∷ rs) d zero e h = (refl, and_left (row_fits r) (all_fit rs) e)
-inside (r ∷ rs) d (suc k) e h = inside rs d k (and_right (row_fits r) (all_fit rs) e) (le_of_suc-le-suc h)
+fits_at : (rs : List Row) (k : ℕ) → all_fit rs ≡ true → row_fits (get_or rs k no_row) ≡ true
+fits_at [] k e = refl
+fits_at (r ∷ rs) zero e = and_left (row_fits r) (all_fit rs) e
+fits_at (r ∷ rs) (suc k) e = fits_at rs k (and_right (row_fits r) (all_fit rs) e)
 
-pub behind : (rs : List Row) (k : ℕ) → length rs ≤ k → (no_row ≡ get_or rs k no_row) × (row_fits no_row ≡ true)
-behind rs k h = (sym (get_or-eq_default rs no_row h), refl)
+tables_fit : (line : Line) → all_fit (rows_of line) ≡ true
+tables_fit Line.FileHeader = refl
+tables_fit Line.BatchHeader = refl
+tables_fit Line.Entry = refl
+tables_fit Line.Addendum = refl
+tables_fit Line.BatchControl = refl
+tables_fit Line.FileControl = refl
+tables_fit Line.Filler = refl
+tables_fit Line.Past = refl
+tables_fit Line.Other = refl
+
+-- the row at a place of a table, or `no_row` behind its end
+pub row_right : (line : Line) (k : ℕ) → row_fits (get_or (rows_of line) k no_row) ≡ true
+row_right line k = fits_at (rows_of line) k (tables_fit line)
 
 -- what a row that fits says, part by part
 pub row_in : (r : Row) → row_fits r ≡ true

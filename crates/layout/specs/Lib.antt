@@ -1,4 +1,5 @@
+pub mod Answers
 pub mod Fields
-pub mod WorkFits
 pub mod Paper
 pub mod Ways
+pub mod WorkFits

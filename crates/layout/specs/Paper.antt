@@ -1,7 +1,8 @@
 -- "For every answer that is an enum, a definition gives this paper's number and values for each case of the enum."
+use Rattle.std.specs.Prelude.{Ok, Err}
 use Rattle.std.specs.Prelude.{ℕ}
 use Rattle.layout.specs.declared.Fault.{Fault}
-use Rattle.layout.specs.declared.Answer.{Answer}
+use Rattle.layout.specs.Answers.{Answer}
 
 -- the paper's table of numbers
 abbrev pub number_of : Fault → ℕ
@@ -77,9 +78,9 @@ pub record Paper : Type 0 where
   pub field_no : ℕ
 
 abbrev pub paper_of : Answer → Paper
-paper_of Answer.Granted = record { number = 0; record_no = 0; field_no = 0 }
-paper_of (Answer.Refused r) = record { number = number_of r.fault; record_no = r.record.0; field_no = r.field }
+paper_of (Ok _) = record { number = 0; record_no = 0; field_no = 0 }
+paper_of (Err r) = record { number = number_of r.fault; record_no = r.record.0; field_no = r.field }
 
 -- a refusal, by its cause and its place
 abbrev pub refusal : Fault → ℕ → ℕ → Answer
-refusal fault n k = Answer.Refused (record { fault = fault; «record» = record { 0 = n }; field = k })
+refusal fault n k = Err (record { fault = fault; «record» = record { 0 = n }; field = k })

@@ -2,13 +2,13 @@
 #![tactic(auto)]
 
 ghost use Rattle.std.specs.Prelude.{◌≡◌, true, length, get_or};
-ghost use Rattle.layout.specs.Fields.{file_header, batch_header, entry, addendum, batch_control, file_control, filler, past, other, rows_of, no_row, first_field};
+ghost use Rattle.layout.specs.Fields.{rows_of, no_row, first_field};
 ghost use Rattle.layout.specs.WorkFits.{row_fits};
 ghost use Rattle.layout.specs.Paper.{number_of, refusal};
 ghost use Rattle.layout.specs.Ways.{record_bytes};
 
 // How the records of a file stand: back to back, or each with CR LF behind it.
-#[derive(Clone, Copy)]
+#[derive(Clone, Copy, PartialEq, Eq)]
 pub enum Way {
     Plain,
     Lined,
@@ -23,7 +23,7 @@ pub struct RecordNo(pub u64);
 pub struct EntryNo(pub u64);
 
 // Why something is refused: one case for each number of the paper's table, in its order.
-#[derive(Clone, Copy)]
+#[derive(Clone, Copy, PartialEq, Eq)]
 pub enum Fault {
     Length,
     Ended,
@@ -66,16 +66,12 @@ pub struct Refusal {
     pub field: u64,
 }
 
-#[derive(Clone, Copy)]
-pub enum Answer {
-    Granted,
-    Refused(Refusal),
-}
+// Granted, with what was asked for, or the first refusal.
+pub type Answer<T> = Result<T, Refusal>;
 
-// What checking gives. On a refusal every number is 0.
+// What a check counts in a file that it accepts.
 #[derive(Clone, Copy)]
-pub struct Checked {
-    pub answer: Answer,
+pub struct Acceptance {
     pub batches: u64,
     pub entries: u64,
     pub addenda: u64,
@@ -84,22 +80,28 @@ pub struct Checked {
     pub bycode: [u64; 24],
 }
 
-// What reading and writing give: the result's length, 0 on a refusal.
-#[derive(Clone, Copy)]
-pub struct Made {
-    pub answer: Answer,
-    pub length: u64,
-}
+impl Refusal {
+    // By its cause and its place: the record's number and the field's.
+    pub fn at(fault: Fault, number: u64, k: u64) -> Refusal
+        ensures { Err result ≡ refusal fault number k }
+    {
+        Refusal {
+            fault,
+            record: RecordNo(number),
+            field: k,
+        }
+    }
 
-// What altering gives: the new amount less the old, 0 on a refusal.
-#[derive(Clone, Copy)]
-pub struct Altered {
-    pub answer: Answer,
-    pub difference: i64,
+    // Of the whole that was lent: no record, no field.
+    pub fn whole(fault: Fault) -> Refusal
+        ensures { Err result ≡ refusal fault 0 0 }
+    {
+        Refusal::at(fault, 0, 0)
+    }
 }
 
 // What a record is taken for at its place in the file.
-#[derive(Clone, Copy)]
+#[derive(Clone, Copy, PartialEq, Eq)]
 pub enum Line {
     FileHeader,
     BatchHeader,
@@ -181,478 +183,134 @@ pub struct Row {
     pub kind: Kind,
 }
 
+// A row of a table: first column, last column, kind.
+macro_rules! row {
+    ($first:literal, $last:literal, $kind:expr) => {
+        Row {
+            first: $first,
+            last: $last,
+            kind: $kind,
+        }
+    };
+}
+
 const FILE_HEADER: [Row; 13] = [
-    Row {
-        first: 1,
-        last: 1,
-        kind: Kind::Type,
-    },
-    Row {
-        first: 2,
-        last: 3,
-        kind: Kind::Fixed(1),
-    },
-    Row {
-        first: 4,
-        last: 13,
-        kind: Kind::Own(Own::Destination),
-    },
-    Row {
-        first: 14,
-        last: 23,
-        kind: Kind::Own(Own::Origin),
-    },
-    Row {
-        first: 24,
-        last: 29,
-        kind: Kind::Date,
-    },
-    Row {
-        first: 30,
-        last: 33,
-        kind: Kind::Own(Own::Time),
-    },
-    Row {
-        first: 34,
-        last: 34,
-        kind: Kind::Own(Own::Modifier),
-    },
-    Row {
-        first: 35,
-        last: 37,
-        kind: Kind::Fixed(94),
-    },
-    Row {
-        first: 38,
-        last: 39,
-        kind: Kind::Fixed(10),
-    },
-    Row {
-        first: 40,
-        last: 40,
-        kind: Kind::Fixed(1),
-    },
-    Row {
-        first: 41,
-        last: 63,
-        kind: Kind::Optional,
-    },
-    Row {
-        first: 64,
-        last: 86,
-        kind: Kind::Optional,
-    },
-    Row {
-        first: 87,
-        last: 94,
-        kind: Kind::Optional,
-    },
+    row!(1, 1, Kind::Type),
+    row!(2, 3, Kind::Fixed(1)),
+    row!(4, 13, Kind::Own(Own::Destination)),
+    row!(14, 23, Kind::Own(Own::Origin)),
+    row!(24, 29, Kind::Date),
+    row!(30, 33, Kind::Own(Own::Time)),
+    row!(34, 34, Kind::Own(Own::Modifier)),
+    row!(35, 37, Kind::Fixed(94)),
+    row!(38, 39, Kind::Fixed(10)),
+    row!(40, 40, Kind::Fixed(1)),
+    row!(41, 63, Kind::Optional),
+    row!(64, 86, Kind::Optional),
+    row!(87, 94, Kind::Optional),
 ];
 
 const BATCH_HEADER: [Row; 13] = [
-    Row {
-        first: 1,
-        last: 1,
-        kind: Kind::Type,
-    },
-    Row {
-        first: 2,
-        last: 4,
-        kind: Kind::Own(Own::Class),
-    },
-    Row {
-        first: 5,
-        last: 20,
-        kind: Kind::Mandatory,
-    },
-    Row {
-        first: 21,
-        last: 40,
-        kind: Kind::Optional,
-    },
-    Row {
-        first: 41,
-        last: 50,
-        kind: Kind::Mandatory,
-    },
-    Row {
-        first: 51,
-        last: 53,
-        kind: Kind::Own(Own::EntryClass),
-    },
-    Row {
-        first: 54,
-        last: 63,
-        kind: Kind::Mandatory,
-    },
-    Row {
-        first: 64,
-        last: 69,
-        kind: Kind::Optional,
-    },
-    Row {
-        first: 70,
-        last: 75,
-        kind: Kind::Date,
-    },
-    Row {
-        first: 76,
-        last: 78,
-        kind: Kind::Blanks,
-    },
-    Row {
-        first: 79,
-        last: 79,
-        kind: Kind::Fixed(1),
-    },
-    Row {
-        first: 80,
-        last: 87,
-        kind: Kind::Digits,
-    },
-    Row {
-        first: 88,
-        last: 94,
-        kind: Kind::Near(Near::BatchNumber),
-    },
+    row!(1, 1, Kind::Type),
+    row!(2, 4, Kind::Own(Own::Class)),
+    row!(5, 20, Kind::Mandatory),
+    row!(21, 40, Kind::Optional),
+    row!(41, 50, Kind::Mandatory),
+    row!(51, 53, Kind::Own(Own::EntryClass)),
+    row!(54, 63, Kind::Mandatory),
+    row!(64, 69, Kind::Optional),
+    row!(70, 75, Kind::Date),
+    row!(76, 78, Kind::Blanks),
+    row!(79, 79, Kind::Fixed(1)),
+    row!(80, 87, Kind::Digits),
+    row!(88, 94, Kind::Near(Near::BatchNumber)),
 ];
 
 const ENTRY: [Row; 11] = [
-    Row {
-        first: 1,
-        last: 1,
-        kind: Kind::Type,
-    },
-    Row {
-        first: 2,
-        last: 3,
-        kind: Kind::Near(Near::Code),
-    },
-    Row {
-        first: 4,
-        last: 11,
-        kind: Kind::Own(Own::Bank),
-    },
-    Row {
-        first: 12,
-        last: 12,
-        kind: Kind::Near(Near::CheckDigit),
-    },
-    Row {
-        first: 13,
-        last: 29,
-        kind: Kind::Own(Own::Account),
-    },
-    Row {
-        first: 30,
-        last: 39,
-        kind: Kind::Near(Near::Amount),
-    },
-    Row {
-        first: 40,
-        last: 54,
-        kind: Kind::Optional,
-    },
-    Row {
-        first: 55,
-        last: 76,
-        kind: Kind::Mandatory,
-    },
-    Row {
-        first: 77,
-        last: 78,
-        kind: Kind::Optional,
-    },
-    Row {
-        first: 79,
-        last: 79,
-        kind: Kind::Near(Near::Flag),
-    },
-    Row {
-        first: 80,
-        last: 94,
-        kind: Kind::Near(Near::Trace),
-    },
+    row!(1, 1, Kind::Type),
+    row!(2, 3, Kind::Near(Near::Code)),
+    row!(4, 11, Kind::Own(Own::Bank)),
+    row!(12, 12, Kind::Near(Near::CheckDigit)),
+    row!(13, 29, Kind::Own(Own::Account)),
+    row!(30, 39, Kind::Near(Near::Amount)),
+    row!(40, 54, Kind::Optional),
+    row!(55, 76, Kind::Mandatory),
+    row!(77, 78, Kind::Optional),
+    row!(79, 79, Kind::Near(Near::Flag)),
+    row!(80, 94, Kind::Near(Near::Trace)),
 ];
 
 const ADDENDUM: [Row; 5] = [
-    Row {
-        first: 1,
-        last: 1,
-        kind: Kind::Type,
-    },
-    Row {
-        first: 2,
-        last: 3,
-        kind: Kind::Fixed(5),
-    },
-    Row {
-        first: 4,
-        last: 83,
-        kind: Kind::Optional,
-    },
-    Row {
-        first: 84,
-        last: 87,
-        kind: Kind::Fixed(1),
-    },
-    Row {
-        first: 88,
-        last: 94,
-        kind: Kind::Near(Near::EntryTrace),
-    },
+    row!(1, 1, Kind::Type),
+    row!(2, 3, Kind::Fixed(5)),
+    row!(4, 83, Kind::Optional),
+    row!(84, 87, Kind::Fixed(1)),
+    row!(88, 94, Kind::Near(Near::EntryTrace)),
 ];
 
 const BATCH_CONTROL: [Row; 11] = [
-    Row {
-        first: 1,
-        last: 1,
-        kind: Kind::Type,
-    },
-    Row {
-        first: 2,
-        last: 4,
-        kind: Kind::AsBatch(2),
-    },
-    Row {
-        first: 5,
-        last: 10,
-        kind: Kind::Count(Sum::BatchRecords),
-    },
-    Row {
-        first: 11,
-        last: 20,
-        kind: Kind::Hash(Sum::BatchHash),
-    },
-    Row {
-        first: 21,
-        last: 32,
-        kind: Kind::Total(Sum::BatchDebit),
-    },
-    Row {
-        first: 33,
-        last: 44,
-        kind: Kind::Total(Sum::BatchCredit),
-    },
-    Row {
-        first: 45,
-        last: 54,
-        kind: Kind::AsBatch(41),
-    },
-    Row {
-        first: 55,
-        last: 73,
-        kind: Kind::Blanks,
-    },
-    Row {
-        first: 74,
-        last: 79,
-        kind: Kind::Blanks,
-    },
-    Row {
-        first: 80,
-        last: 87,
-        kind: Kind::AsBatch(80),
-    },
-    Row {
-        first: 88,
-        last: 94,
-        kind: Kind::AsBatch(88),
-    },
+    row!(1, 1, Kind::Type),
+    row!(2, 4, Kind::AsBatch(2)),
+    row!(5, 10, Kind::Count(Sum::BatchRecords)),
+    row!(11, 20, Kind::Hash(Sum::BatchHash)),
+    row!(21, 32, Kind::Total(Sum::BatchDebit)),
+    row!(33, 44, Kind::Total(Sum::BatchCredit)),
+    row!(45, 54, Kind::AsBatch(41)),
+    row!(55, 73, Kind::Blanks),
+    row!(74, 79, Kind::Blanks),
+    row!(80, 87, Kind::AsBatch(80)),
+    row!(88, 94, Kind::AsBatch(88)),
 ];
 
 const FILE_CONTROL: [Row; 8] = [
-    Row {
-        first: 1,
-        last: 1,
-        kind: Kind::Type,
-    },
-    Row {
-        first: 2,
-        last: 7,
-        kind: Kind::Count(Sum::Batches),
-    },
-    Row {
-        first: 8,
-        last: 13,
-        kind: Kind::Count(Sum::Blocks),
-    },
-    Row {
-        first: 14,
-        last: 21,
-        kind: Kind::Count(Sum::FileRecords),
-    },
-    Row {
-        first: 22,
-        last: 31,
-        kind: Kind::Hash(Sum::FileHash),
-    },
-    Row {
-        first: 32,
-        last: 43,
-        kind: Kind::Total(Sum::FileDebit),
-    },
-    Row {
-        first: 44,
-        last: 55,
-        kind: Kind::Total(Sum::FileCredit),
-    },
-    Row {
-        first: 56,
-        last: 94,
-        kind: Kind::Blanks,
-    },
+    row!(1, 1, Kind::Type),
+    row!(2, 7, Kind::Count(Sum::Batches)),
+    row!(8, 13, Kind::Count(Sum::Blocks)),
+    row!(14, 21, Kind::Count(Sum::FileRecords)),
+    row!(22, 31, Kind::Hash(Sum::FileHash)),
+    row!(32, 43, Kind::Total(Sum::FileDebit)),
+    row!(44, 55, Kind::Total(Sum::FileCredit)),
+    row!(56, 94, Kind::Blanks),
 ];
 
-const FILLER: [Row; 1] = [Row {
-    first: 1,
-    last: 94,
-    kind: Kind::Nines,
-}];
+const FILLER: [Row; 1] = [row!(1, 94, Kind::Nines)];
 
-const PAST: [Row; 1] = [Row {
-    first: 1,
-    last: 94,
-    kind: Kind::Past,
-}];
+const PAST: [Row; 1] = [row!(1, 94, Kind::Past)];
 
-const OTHER: [Row; 1] = [Row {
-    first: 1,
-    last: 1,
-    kind: Kind::Misplaced,
-}];
+const OTHER: [Row; 1] = [row!(1, 1, Kind::Misplaced)];
 
 // What stands behind a table's last row.
-const NO_ROW: Row = Row {
-    first: 1,
-    last: 1,
-    kind: Kind::Type,
-};
+const NO_ROW: Row = row!(1, 1, Kind::Type);
 
-fn file_header_row(k: usize) -> Row
-    ensures { (result ≡ get_or file_header k no_row) × (row_fits result ≡ true) }
+// The table of this record type.
+pub fn rows(line: Line) -> &'static [Row]
+    ensures { result.now ≡ rows_of line }
 {
-    if k < 13 {
-        return FILE_HEADER[k];
+    match line {
+        Line::FileHeader => &FILE_HEADER,
+        Line::BatchHeader => &BATCH_HEADER,
+        Line::Entry => &ENTRY,
+        Line::Addendum => &ADDENDUM,
+        Line::BatchControl => &BATCH_CONTROL,
+        Line::FileControl => &FILE_CONTROL,
+        Line::Filler => &FILLER,
+        Line::Past => &PAST,
+        Line::Other => &OTHER,
     }
-    NO_ROW
-}
-
-fn batch_header_row(k: usize) -> Row
-    ensures { (result ≡ get_or batch_header k no_row) × (row_fits result ≡ true) }
-{
-    if k < 13 {
-        return BATCH_HEADER[k];
-    }
-    NO_ROW
-}
-
-fn entry_row(k: usize) -> Row
-    ensures { (result ≡ get_or entry k no_row) × (row_fits result ≡ true) }
-{
-    if k < 11 {
-        return ENTRY[k];
-    }
-    NO_ROW
-}
-
-fn addendum_row(k: usize) -> Row
-    ensures { (result ≡ get_or addendum k no_row) × (row_fits result ≡ true) }
-{
-    if k < 5 {
-        return ADDENDUM[k];
-    }
-    NO_ROW
-}
-
-fn batch_control_row(k: usize) -> Row
-    ensures { (result ≡ get_or batch_control k no_row) × (row_fits result ≡ true) }
-{
-    if k < 11 {
-        return BATCH_CONTROL[k];
-    }
-    NO_ROW
-}
-
-fn file_control_row(k: usize) -> Row
-    ensures { (result ≡ get_or file_control k no_row) × (row_fits result ≡ true) }
-{
-    if k < 8 {
-        return FILE_CONTROL[k];
-    }
-    NO_ROW
-}
-
-fn filler_row(k: usize) -> Row
-    ensures { (result ≡ get_or filler k no_row) × (row_fits result ≡ true) }
-{
-    if k < 1 {
-        return FILLER[k];
-    }
-    NO_ROW
-}
-
-fn past_row(k: usize) -> Row
-    ensures { (result ≡ get_or past k no_row) × (row_fits result ≡ true) }
-{
-    if k < 1 {
-        return PAST[k];
-    }
-    NO_ROW
-}
-
-fn other_row(k: usize) -> Row
-    ensures { (result ≡ get_or other k no_row) × (row_fits result ≡ true) }
-{
-    if k < 1 {
-        return OTHER[k];
-    }
-    NO_ROW
-}
-
-// A refusal by its cause and its place.
-pub fn refused(fault: Fault, number: u64, k: u64) -> Answer
-    ensures { result ≡ refusal fault number k }
-{
-    Answer::Refused(Refusal {
-        fault,
-        record: RecordNo(number),
-        field: k,
-    })
 }
 
 // Row k, from 0, of the table of this record type.
 pub fn row_of(line: Line, k: usize) -> Row
     ensures { (result ≡ get_or (rows_of line) k no_row) × (row_fits result ≡ true) }
 {
-    match line {
-        Line::FileHeader => file_header_row(k),
-        Line::BatchHeader => batch_header_row(k),
-        Line::Entry => entry_row(k),
-        Line::Addendum => addendum_row(k),
-        Line::BatchControl => batch_control_row(k),
-        Line::FileControl => file_control_row(k),
-        Line::Filler => filler_row(k),
-        Line::Past => past_row(k),
-        Line::Other => other_row(k),
-    }
+    rows(line).get(k).copied().unwrap_or(NO_ROW)
 }
 
 // How many rows the table of this record type has.
 pub fn rows_in(line: Line) -> usize
     ensures { result ≡ length (rows_of line) }
 {
-    match line {
-        Line::FileHeader => 13,
-        Line::BatchHeader => 13,
-        Line::Entry => 11,
-        Line::Addendum => 5,
-        Line::BatchControl => 11,
-        Line::FileControl => 8,
-        Line::Filler => 1,
-        Line::Past => 1,
-        Line::Other => 1,
-    }
+    rows(line).len()
 }
 
 // The number of the first row's field.
@@ -660,15 +318,8 @@ pub fn first_field(line: Line) -> u64
     ensures { result ≡ first_field line }
 {
     match line {
-        Line::FileHeader => 1,
-        Line::BatchHeader => 1,
-        Line::Entry => 1,
-        Line::Addendum => 1,
-        Line::BatchControl => 1,
-        Line::FileControl => 1,
-        Line::Filler => 0,
-        Line::Past => 0,
-        Line::Other => 1,
+        Line::Filler | Line::Past => 0,
+        _ => 1,
     }
 }
 

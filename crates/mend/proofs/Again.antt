@@ -1,5 +1,6 @@
 -- The mended records of any records: they are as long as those of a file, mended again they are the same, and only nines stand behind their 9.
 -- Assumes nothing but what a statement says.
+use Rattle.std.specs.Prelude.{Ok}
 use mathlib.Core.Path.{◌≡◌, refl, sym, ap, ap₂, ◌∙◌}
 use mathlib.Core.Bool.{Bool, true, false, ◌&&◌}
 use mathlib.Core.List.{List, [], ◌∷◌, ◌++◌}
@@ -16,7 +17,7 @@ use Rattle.text.specs.Same.{same_bytes}
 use Rattle.text.specs.Widths.{AllLong, Wide}
 use Rattle.text.proofs.DecimalLaws.{and_both, length_render, same_equal}
 use Rattle.text.proofs.RowLaws.{length_wide, length_columns, length_joined, rows_joined, rows_long}
-use Rattle.layout.specs.declared.Answer.{Answer}
+use Rattle.layout.specs.Answers.{Answer}
 use Rattle.layout.specs.declared.Fault.{Fault}
 use Rattle.layout.specs.declared.Line.{Line}
 use Rattle.layout.specs.declared.Way.{Way}
@@ -208,7 +209,7 @@ module _ (way : Way) where
       let more : 1 + n + 1 ≡ suc (n + 1) = omega arith in
       ap (λ b. only_nines k (drop (pick b 0 (1 + n) + 1) (r ∷ rs))) e ∙ ap (λ j. only_nines k (drop j (r ∷ rs))) more
 
-  fillers_nines : (n k : ℕ) → only_nines k (replicate n (closed_by way filler_record)) ≡ Answer.Granted
+  fillers_nines : (n k : ℕ) → only_nines k (replicate n (closed_by way filler_record)) ≡ Ok tt
   unfolding only_nines
   fillers_nines zero k = refl
   fillers_nines (suc n) k =
@@ -216,7 +217,7 @@ module _ (way : Way) where
       ap (λ x. same_bytes x filler_record) (take_at filler_record (end_of way) 94 refl) ∙ (same_equal filler_record filler_record).1 refl in
       ap (λ b. demand b (refusal Fault.Past k 0) (only_nines (k + 1) (replicate n (closed_by way filler_record)))) nines ∙ fillers_nines n (k + 1)
 
-  behind_mended : (last : ℕ) (s : Sums) (h : List ℕ) (rs : List (List ℕ)) (k : ℕ) → Behind last (mended_from way last s h rs) k ≡ Answer.Granted
+  behind_mended : (last : ℕ) (s : Sums) (h : List ℕ) (rs : List (List ℕ)) (k : ℕ) → Behind last (mended_from way last s h rs) k ≡ Ok tt
   unfolding mended_from before_nine only_nines
   behind_mended last s h [] k = refl
   behind_mended last s h (r ∷ rs) k =
@@ -235,6 +236,6 @@ module _ (way : Way) where
       ∙ behind_mended (type_of r) (sums_past s r) (header_past h r) rs k)
 
   -- only nines stand behind the 9 of a mended file
-  pub mended_behind : (f : List ℕ) → behind_nine (mended_records way (raw_records way f)) ≡ Answer.Granted
+  pub mended_behind : (f : List ℕ) → behind_nine (mended_records way (raw_records way f)) ≡ Ok tt
   mended_behind f =
       behind_mended 0 start.sums start.header (raw_records way f) (nine_at (mended_records way (raw_records way f)) + 2)

@@ -1,5 +1,6 @@
 -- Mending keeps every record that is neither a control nor a filler, where only nines stood behind the 9.
 -- Assumes nothing but what a statement says.
+use Rattle.std.specs.Prelude.{Ok}
 use mathlib.Core.Path.{◌≡◌, refl, sym, ap, ap₂, ◌∙◌}
 use mathlib.Core.Bool.{Bool, true, false, ◌&&◌, ◌||◌}
 use mathlib.Core.List.{List, [], ◌∷◌, ◌++◌}
@@ -10,7 +11,6 @@ use lib.ListN.{get_or, take, replicate}
 use Rattle.text.specs.Decimal.{pick}
 use Rattle.text.specs.Same.{same_bytes}
 use Rattle.text.proofs.DecimalLaws.{and_both, same_equal}
-use Rattle.layout.specs.declared.Answer.{Answer}
 use Rattle.layout.specs.declared.Way.{Way}
 use Rattle.check_across.specs.declared.Sums.{Sums}
 use Rattle.check_sums.specs.Sums.{start}
@@ -31,7 +31,7 @@ nines_type : (r : List ℕ) → take 94 r ≡ filler_record → type_of r ≡ 57
 nines_type [] e = ap (λ l. get_or l 0 0) e
 nines_type (x ∷ xs) e = ap (λ l. get_or l 0 0) e
 
-nines_none : (k : ℕ) (rs : List (List ℕ)) → only_nines k rs ≡ Answer.Granted → beside_controls rs ≡ []
+nines_none : (k : ℕ) (rs : List (List ℕ)) → only_nines k rs ≡ Ok tt → beside_controls rs ≡ []
 unfolding only_nines beside_controls
 nines_none k [] g = refl
 nines_none k (r ∷ rs) g =
@@ -53,7 +53,7 @@ record_kept s h r true e =
     ap (sorted_by (refilled (batch_control_from s h) r)) (batch_type s h r) ∙ sym (ap (sorted_by r) eight)
 
 module _ (way : Way) where
-  kept : (last : ℕ) (s : Sums) (h : List ℕ) (rs : List (List ℕ)) (k : ℕ) → Behind way last rs k ≡ Answer.Granted
+  kept : (last : ℕ) (s : Sums) (h : List ℕ) (rs : List (List ℕ)) (k : ℕ) → Behind way last rs k ≡ Ok tt
       → beside_controls (mended_from way last s h rs) ≡ beside_controls rs
   unfolding mended_from beside_controls
   kept last s h [] k g = refl
@@ -71,7 +71,7 @@ module _ (way : Way) where
       (kept (type_of r) (sums_past s r) (header_past h r) rs k (sym (behind_other way last r rs k e) ∙ g)))
 
   -- the records 1, 5, 6 and 7 of the lent file, and whatever else begins with neither 8 nor 9, are those of the mended file
-  pub records_kept : (f : List ℕ) → behind_nine (raw_records way f) ≡ Answer.Granted
+  pub records_kept : (f : List ℕ) → behind_nine (raw_records way f) ≡ Ok tt
       → beside_controls (raw_records way (mended_file way f)) ≡ beside_controls (raw_records way f)
   records_kept f g =
       ap beside_controls (raw_mended way f) ∙ kept 0 start.sums start.header (raw_records way f) (nine_at (raw_records way f) + 2) g

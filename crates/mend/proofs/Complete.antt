@@ -1,6 +1,7 @@
 -- The list of a mending is complete and true: each byte in which the two files differ is in a listed field or behind the 9, each row is of a
 -- field that differs, no field has two rows, and the counts are those of the rows.
 -- Assumes nothing but what a statement says.
+use Rattle.std.specs.Prelude.{Ok}
 use mathlib.Core.Path.{◌≡◌, refl, sym, ap, ap₂, ◌∙◌, subst}
 use mathlib.Core.Bool.{Bool, true, false, ◌&&◌}
 use mathlib.Core.List.{List, [], ◌∷◌, ◌++◌, append_assoc, append-nil}
@@ -15,7 +16,6 @@ use Rattle.text.specs.Rows.{section}
 use Rattle.text.specs.Same.{same_bytes}
 use Rattle.text.proofs.DecimalLaws.{and_both, same_equal}
 use Rattle.text.proofs.RowLaws.{length_rows, section_count}
-use Rattle.layout.specs.declared.Answer.{Answer}
 use Rattle.layout.specs.declared.Row.{Row}
 use Rattle.layout.specs.declared.Way.{Way}
 use Rattle.layout.specs.Fields.{no_row, batch_control, file_control}
@@ -345,7 +345,7 @@ module _ (way : Way) (f : List ℕ) where
   -- ---- a grant
 
   -- so much is true of the list of a granted mending
-  pub granted_list : (n m : ℕ) → mend_answer way f n m ≡ Answer.Granted → ListOf way f
+  pub granted_list : (n m : ℕ) → mend_answer way f n m ≡ Ok tt → ListOf way f
   granted_list n m e =
       let fit = ((exactly_granted way f n m).0 e).whole in
       record { complete = differs_listed fit; true_rows = listed_differs fit; once = listed_once fit; counted = counts_own fit }

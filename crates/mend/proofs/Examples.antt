@@ -1,5 +1,6 @@
 -- A worked file of two batches, damaged in one thing or another and mended. Its records are 1, 5, 6, 6, 7, 8, 5, 6, 6, 8, 9 and nine fillers.
 -- Each fact is computed from the definitions.
+use Rattle.std.specs.Prelude.{Ok}
 use Prim.Native.Nat.{ℕ, ◌+◌, ◌-◌, ◌*◌}
 use mathlib.Core.Path.{◌≡◌, refl}
 use mathlib.Core.List.{List, [], ◌∷◌, ◌++◌}
@@ -8,7 +9,6 @@ use lib.Seq.{sets}
 use Rattle.text.specs.Decimal.{every, value_from, render}
 use Rattle.text.specs.Same.{same_bytes}
 use Rattle.text.specs.Rows.{rows, joined}
-use Rattle.layout.specs.declared.Answer.{Answer}
 use Rattle.layout.specs.declared.Fault.{Fault}
 use Rattle.layout.specs.declared.Way.{Way}
 use Rattle.layout.specs.Paper.{refusal}
@@ -39,7 +39,7 @@ mend way f = mend_of way f (replicate (record_bytes way * 20 + 1) 42) (replicate
 abbrev pub mended_with : Way → List ℕ → Mending
 mended_with way changes =
     record {
-      gives = record { answer = Answer.Granted; length = record_bytes way * 20; listed = length changes };
+      gives = record { answer = Ok tt; length = record_bytes way * 20; listed = length changes };
       leaves = sent way ++ (42 ∷ []);
       changes = changes ++ replicate (300 - length changes) 46;
     }
@@ -145,7 +145,7 @@ pub record Worked : Type 0 where
   pub short_list : mend_of Way.Plain (sent Way.Plain) (replicate 1880 42) (replicate 20 46)
       ≡ record { gives = record { answer = refusal Fault.Room 0 0; length = 0; listed = 0 }; leaves = replicate 1880 42; changes = replicate 20 46 }
   pub just_enough : mend_of Way.Plain (sent Way.Plain) (replicate 1880 42) (replicate 21 46)
-      ≡ record { gives = record { answer = Answer.Granted; length = 1880; listed = 21 }; leaves = sent Way.Plain; changes = replicate 21 48 }
+      ≡ record { gives = record { answer = Ok tt; length = 1880; listed = 21 }; leaves = sent Way.Plain; changes = replicate 21 48 }
   -- "1 for the lent file"
   pub lent_length : mend Way.Plain (take 1879 (sent Way.Plain)) ≡ refused_with Way.Plain Fault.Length 0 0
   pub other_way : mend Way.Plain (sent Way.Lined) ≡ refused_with Way.Plain Fault.Length 0 0

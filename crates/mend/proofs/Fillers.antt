@@ -1,5 +1,6 @@
 -- Behind the 9: a granted mending has a 9, only nines stood behind it, and in the mended file stand as many fillers as fill the block.
 -- Assumes that mending is granted, or that only nines stood behind the 9.
+use Rattle.std.specs.Prelude.{Ok}
 use mathlib.Core.Path.{◌≡◌, refl, sym, ap, ap₂, ◌∙◌, subst}
 use mathlib.Core.List.{List, [], ◌∷◌, ◌++◌, map, append_assoc, append-nil, map-append}
 use mathlib.Core.Bool.{true}
@@ -9,7 +10,6 @@ use native.Mathlib.Omega.{arith}
 use lib.ListN.{length, take, drop, replicate}
 use Rattle.text.specs.Same.{same_bytes}
 use Rattle.text.proofs.DecimalLaws.{same_equal}
-use Rattle.layout.specs.declared.Answer.{Answer}
 use Rattle.layout.specs.declared.Way.{Way}
 use Rattle.check_across.specs.declared.Sums.{Sums}
 use Rattle.check_sums.specs.Sums.{start}
@@ -32,7 +32,7 @@ use Rattle.mend.proofs.Granted.{exactly_granted}
 
 -- ---- the lent file
 
-only_fillers : (k : ℕ) (rs : List (List ℕ)) → only_nines k rs ≡ Answer.Granted → map (take 94) rs ≡ replicate (length rs) filler_record
+only_fillers : (k : ℕ) (rs : List (List ℕ)) → only_nines k rs ≡ Ok tt → map (take 94) rs ≡ replicate (length rs) filler_record
 unfolding only_nines
 only_fillers k [] g = refl
 only_fillers k (r ∷ rs) g =
@@ -123,7 +123,7 @@ module _ (way : Way) where
           (nine_within 0 (map (closed_by way) front) (closed_by way c) (closed_by way nine) (map (closed_by way) fillers) (closed_type way c ends.long ∙ ends.eight)
           (closed_type way nine f.long ∙ f.type))
 
-  accepted_nine : (f : List ℕ) → (checked_of way f).answer ≡ Answer.Granted → nine_at (raw_records way f) < length (raw_records way f)
+  accepted_nine : (f : List ℕ) → (checked_of way f).answer ≡ Ok tt → nine_at (raw_records way f) < length (raw_records way f)
   accepted_nine f e =
       let p = accepted_view way f e in
       subst (λ rs. nine_at rs < length rs) (sym (raw_accepted way f e)) (view_nine (view_of way f) p.sized p.keeps.nonempty)
@@ -134,7 +134,7 @@ module _ (way : Way) where
     nine_both k =
         by_lt (nine_at (raw_records way f)) (length (raw_records way f)) (λ l t. l) (λ l t. absurd (omega (arith, k, nine_stays way f, no_nine way f l)))
 
-    pub granted_behind : (n m : ℕ) → mend_answer way f n m ≡ Answer.Granted → BehindNine way f
+    pub granted_behind : (n m : ℕ) → mend_answer way f n m ≡ Ok tt → BehindNine way f
     granted_behind n m e =
         let g = (exactly_granted way f n m).0 e in
         let olds = raw_records way f in

@@ -1,5 +1,6 @@
 -- A granted mending says what the lent file says: the mended file has the lent file's view, and is the file of that view and of its table.
 -- Assumes that mending is granted.
+use Rattle.std.specs.Prelude.{Ok}
 use mathlib.Core.Path.{◌≡◌, refl, sym, ap, ◌∙◌, subst}
 use mathlib.Core.Bool.{Bool, true, false, ◌||◌}
 use mathlib.Core.List.{List, [], ◌∷◌, ◌++◌, map, foldr}
@@ -8,7 +9,6 @@ use borrow.Author.Tests.{eqb-true}
 use lib.Dec.{eqb}
 use lib.ListN.{take}
 use Rattle.text.specs.Decimal.{pick}
-use Rattle.layout.specs.declared.Answer.{Answer}
 use Rattle.layout.specs.declared.Way.{Way}
 use Rattle.check_record.specs.Record.{raw_records}
 use Rattle.view.specs.View.{Reading, nothing, gather, file_of, view_of}
@@ -50,25 +50,25 @@ module _ (way : Way) where
   -- ---- a grant
 
   -- nobody's header, entry or addendum changes: the two files say the same
-  pub granted_view : (f : List ℕ) (n m : ℕ) → mend_answer way f n m ≡ Answer.Granted → view_of way (mended_file way f) ≡ view_of way f
+  pub granted_view : (f : List ℕ) (n m : ℕ) → mend_answer way f n m ≡ Ok tt → view_of way (mended_file way f) ≡ view_of way f
   granted_view f n m e = view_beside (mended_file way f) f (grant_keeps way f n m e)
 
   -- that view has its sizes and keeps the rules, and the mended file is the file of it
-  pub granted_form : (f : List ℕ) (n m : ℕ) → mend_answer way f n m ≡ Answer.Granted → FileOf way (mended_file way f) (view_of way f)
+  pub granted_form : (f : List ℕ) (n m : ℕ) → mend_answer way f n m ≡ Ok tt → FileOf way (mended_file way f) (view_of way f)
   granted_form f n m e =
       subst (FileOf way (mended_file way f)) (granted_view f n m e) (accepted_view way (mended_file way f) ((exactly_granted way f n m).0 e).accepted)
 
-  pub granted_file : (f : List ℕ) (n m : ℕ) → mend_answer way f n m ≡ Answer.Granted → mended_file way f ≡ file_of way (view_of way f)
+  pub granted_file : (f : List ℕ) (n m : ℕ) → mend_answer way f n m ≡ Ok tt → mended_file way f ≡ file_of way (view_of way f)
   granted_file f n m e = (granted_form f n m e).form
 
   -- both files have one table, and the mended file is the one that is formed of it
-  pub granted_table_lem : (f : List ℕ) (n m : ℕ) → mend_answer way f n m ≡ Answer.Granted
+  pub granted_table_lem : (f : List ℕ) (n m : ℕ) → mend_answer way f n m ≡ Ok tt
       → (table_of way (mended_file way f) ≡ table_of way f) × (mended_file way f ≡ formed way (table_of way f))
   granted_table_lem f n m e =
       let same = ap table_bytes (granted_view f n m e) in
       (same, sym (file_back way (mended_file way f) ((exactly_granted way f n m).0 e).accepted).1 ∙ ap (formed way) same)
 
   -- so what the lent controls and fillers say has no part in it: files that say the same are mended to the same file
-  pub granted_one : (f g : List ℕ) (n m k l : ℕ) → mend_answer way f n m ≡ Answer.Granted → mend_answer way g k l ≡ Answer.Granted
+  pub granted_one : (f g : List ℕ) (n m k l : ℕ) → mend_answer way f n m ≡ Ok tt → mend_answer way g k l ≡ Ok tt
       → view_of way f ≡ view_of way g → mended_file way f ≡ mended_file way g
   granted_one f g n m k l e d same = granted_file f n m e ∙ ap (file_of way) same ∙ sym (granted_file g k l d)

@@ -1,5 +1,6 @@
 -- Mending leaves an accepted file as it is, and then has no change to list.
 -- Assumes that the file is accepted.
+use Rattle.std.specs.Prelude.{Ok}
 use mathlib.Core.Path.{◌≡◌, refl, sym, ap, ap₂, ◌∙◌, subst}
 use mathlib.Core.Bool.{Bool, true, false, ◌&&◌}
 use mathlib.Core.List.{List, [], ◌∷◌, ◌++◌, map, append_assoc}
@@ -14,7 +15,6 @@ use Rattle.text.specs.Decimal.{pick, render}
 use Rattle.text.specs.Rows.{columns, joined}
 use Rattle.text.specs.Widths.{AllLong}
 use Rattle.text.proofs.DecimalLaws.{same_equal}
-use Rattle.layout.specs.declared.Answer.{Answer}
 use Rattle.layout.specs.declared.Row.{Row}
 use Rattle.layout.specs.declared.Way.{Way}
 use Rattle.layout.specs.Ways.{end_of}
@@ -140,21 +140,21 @@ module _ (way : Way) where
       (first_stays 49 (add_record no_sums) start.header v.batches end n l.each (end_stays v))
 
   -- the records of an accepted file
-  pub raw_accepted : (f : List ℕ) → (checked_of way f).answer ≡ Answer.Granted → raw_records way f ≡ map (closed_by way) (records_of (view_of way f))
+  pub raw_accepted : (f : List ℕ) → (checked_of way f).answer ≡ Ok tt → raw_records way f ≡ map (closed_by way) (records_of (view_of way f))
   raw_accepted f e =
       let p = accepted_view way f e in
       let v = view_of way f in
       ap (raw_records way) p.form ∙ raw_closed way (records_of v) (records_long v p.sized)
 
   -- they stay
-  pub accepted_stays : (f : List ℕ) → (checked_of way f).answer ≡ Answer.Granted → mended_records way (raw_records way f) ≡ raw_records way f
+  pub accepted_stays : (f : List ℕ) → (checked_of way f).answer ≡ Ok tt → mended_records way (raw_records way f) ≡ raw_records way f
   accepted_stays f e =
       let p = accepted_view way f e in
       let raw = raw_accepted f e in
       ap (mended_records way) raw ∙ view_stays (view_of way f) p.sized p.keeps.nonempty ∙ sym raw
 
   -- so the mended file of an accepted file is that file
-  pub mended_accepted : (f : List ℕ) → (checked_of way f).answer ≡ Answer.Granted → mended_file way f ≡ f
+  pub mended_accepted : (f : List ℕ) → (checked_of way f).answer ≡ Ok tt → mended_file way f ≡ f
   mended_accepted f e = ap joined (accepted_stays f e ∙ raw_accepted f e) ∙ sym (accepted_view way f e).form
 
 -- ---- the changes
@@ -185,6 +185,6 @@ between_same n rs =
     rw (none_changed _ _ 1 n rs, none_changed _ _ (n + 1) 1 (drop n rs), eq-eqb (length (drop (n + 1) rs)) (length (drop (n + 1) rs)) refl) refl
 
 -- "No change is 21 zeros."
-pub accepted_unchanged : (way : Way) (f : List ℕ) → (checked_of way f).answer ≡ Answer.Granted → changes_of way f ≡ replicate 21 48
+pub accepted_unchanged : (way : Way) (f : List ℕ) → (checked_of way f).answer ≡ Ok tt → changes_of way f ≡ replicate 21 48
 accepted_unchanged way f e =
     ap (changes_between (nine_at (raw_records way f)) (raw_records way f)) (accepted_stays way f e) ∙ between_same (nine_at (raw_records way f)) (raw_records way f)

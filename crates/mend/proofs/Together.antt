@@ -1,11 +1,11 @@
 -- Mending and the check go together: at a record that the check takes for one of its types, before the 9, both sum the same and have the same
 -- record 5, and the 9 that is mended is due exactly where the check has a batch behind it.
 -- Assumes nothing but what a statement says.
+use Rattle.std.specs.Prelude.{Ok, Err}
 use mathlib.Core.Path.{◌≡◌, refl, sym, ap, ap₂, ◌∙◌, subst}
 use mathlib.Core.Bool.{Bool, true, false, ◌&&◌}
 use mathlib.Core.List.{List, [], ◌∷◌, map}
 use Prim.Native.Nat.{ℕ, zero, suc}
-use native.Mathlib.Omega.{arith}
 use borrow.Author.Tests.{eq-eqb}
 use lib.Dec.{eqb, ltb}
 use lib.ListN.{length, take, replicate}
@@ -20,10 +20,10 @@ use Rattle.check_order.specs.declared.Place.{Place}
 use Rattle.check_order.specs.Order.{line_at, next_place, takes_addendum}
 use Rattle.check_sums.specs.declared.State.{State}
 use Rattle.check_sums.specs.Sums.{next_sums, next_header, tally}
-use Rattle.check_record.specs.declared.Verdict.{Verdict}
+use Rattle.check_record.specs.Verdict.{Verdict, wrong_of}
 use Rattle.check_record.specs.Record.{fields_from, line_of, stepped, bare, closing, record_of, accepted, run_from, piece_of}
 use Rattle.view.specs.View.{fillers_after, filler_record, closed_by}
-use Rattle.view_laws.proofs.BridgeFields.{by_eq, never, not_right, passed_right}
+use Rattle.view_laws.proofs.BridgeFields.{by_eq, never, passed_right}
 use Rattle.view_laws.proofs.BridgeWalk.{at, fillers_run}
 use Rattle.mend.specs.Mend.{type_of, line_by, sums_past, header_past, mended_record, ends_file}
 use Rattle.mend.proofs.Again.{mended_type, passed}
@@ -92,24 +92,24 @@ agree Place.BatchDone n b r o k =
   where
     nine : b ≡ 57 → true ≡ false
     nine e = rw e at k
-agree Place.FileDone n b r o k = never (sym o)
+agree Place.FileDone n b r o k = cc
 
 -- ---- a record that passes
 
-pub failed_not : {A : Type 0} (fault : Fault) (k : ℕ) → Verdict.Failed fault k ≡ Verdict.Passed → A
-failed_not fault k e = absurd (let z : ◌≡◌ {A = ℕ} 0 1 = cc in omega arith)
+pub failed_not : {A : Type 0} (fault : Fault) (k : ℕ) → ◌≡◌ {A = Verdict} (Err (wrong_of fault k)) (Ok tt) → A
+failed_not fault k e = cc
 
 -- its fields passed, and the check went on
-pub step_passed : (b : Bool) (v : Verdict) (next st : State) → (stepped (closing b v) next st).verdict ≡ Verdict.Passed → (v ≡ Verdict.Passed) × ((stepped (closing b v) next st).state ≡ next)
-step_passed true Verdict.Passed next st e = (refl, refl)
-step_passed true (Verdict.Failed fault k) next st e = failed_not fault k e
-step_passed false Verdict.Passed next st e = failed_not Fault.LineEnd 0 e
-step_passed false (Verdict.Failed fault k) next st e = failed_not fault k e
+pub step_passed : (b : Bool) (v : Verdict) (next st : State) → (stepped (closing b v) next st).verdict ≡ Ok tt → (v ≡ Ok tt) × ((stepped (closing b v) next st).state ≡ next)
+step_passed true (Ok _) next st e = (refl, refl)
+step_passed true (Err wrong) next st e = cc
+step_passed false (Ok _) next st e = cc
+step_passed false (Err wrong) next st e = cc
 
 -- so it was taken for one of the types
-line_known : (line : Line) (s : Sums) (h c : List ℕ) → fields_from (first_field line) (rows_of line) s h c ≡ Verdict.Passed → line ≡ Line.Other → ⊥
+line_known : (line : Line) (s : Sums) (h c : List ℕ) → fields_from (first_field line) (rows_of line) s h c ≡ Ok tt → line ≡ Line.Other → ⊥
 line_known line s h c e o =
-    not_right (passed_right 1 (rows_of Line.Other) s h c (subst (λ l. fields_from (first_field l) (rows_of l) s h c ≡ Verdict.Passed) o e)).0
+    cc (passed_right 1 (rows_of Line.Other) s h c (subst (λ l. fields_from (first_field l) (rows_of l) s h c ≡ Ok tt) o e)).0
 
 pub columns_type : (r : List ℕ) → type_of (take 94 r) ≡ type_of r
 columns_type [] = refl
@@ -123,7 +123,7 @@ pub record Onward (st next : State) (r : List ℕ) : Type 0 where
   pub eight : eqb (type_of r) 56 ≡ batch_done next.place
 
 pub onward_together : (way : Way) (st : State) (last : ℕ) (r : List ℕ) → length st.header ≡ 94 → file_done st.place ≡ false → eqb last 56 ≡ batch_done st.place
-    → ends_file last r ≡ false → (record_of st (piece_of way (mended_record st.sums st.header r))).verdict ≡ Verdict.Passed
+    → ends_file last r ≡ false → (record_of st (piece_of way (mended_record st.sums st.header r))).verdict ≡ Ok tt
     → Onward st (record_of st (piece_of way (mended_record st.sums st.header r))).state r
 onward_together way st last r l o k n e =
     let s = st.sums in

@@ -1,3 +1,4 @@
-pub mod Mend
 pub mod Kept
 pub mod Listed
+pub mod Mend
+pub mod Mended

@@ -1,10 +1,10 @@
 -- "Files mended, with a list": the mended records of any records, what changed, and what mending gives and leaves, for any bytes at all.
-use Rattle.std.specs.Prelude.{ℕ, ◌+◌, Bool, ◌&&◌, List, [], ◌∷◌, ◌++◌, eqb, leb, ltb, length, get_or, take, drop, replicate}
+use Rattle.std.specs.Prelude.{ℕ, ◌+◌, Bool, ◌&&◌, List, [], ◌∷◌, ◌++◌, eqb, leb, ltb, length, get_or, take, drop, replicate, Ok}
 use Rattle.text.specs.Decimal.{pick, render}
 use Rattle.text.specs.Rows.{columns, joined, section}
 use Rattle.text.specs.Same.{same_bytes}
 use Rattle.layout.specs.declared.Fault.{Fault}
-use Rattle.layout.specs.declared.Answer.{Answer}
+use Rattle.layout.specs.Answers.{Answer}
 use Rattle.layout.specs.declared.Line.{Line}
 use Rattle.layout.specs.declared.Row.{Row}
 use Rattle.layout.specs.declared.Way.{Way}
@@ -16,7 +16,7 @@ use Rattle.check_record.specs.Record.{length_fits, raw_records, checked_of}
 use Rattle.view.specs.View.{fillers_after, filler_record, closed_by}
 use Rattle.view.specs.Outcome.{demand, and_then, made}
 use Rattle.table_form.specs.Forms.{batch_control_from, file_control_from}
-use Rattle.mend.specs.declared.Mended.{Mended}
+use Rattle.mend.specs.Mended.{Mended}
 
 -- ---- the mended records. All records here are as the file has them, with what stands in the place of a line end.
 
@@ -115,7 +115,7 @@ changes_of way f = changes_between (nine_at (raw_records way f)) (raw_records wa
 
 -- "4 for the first record behind the 9 that isn't all nines", also inside the block; the first of these records has number n
 unfoldable pub only_nines : ℕ → List (List ℕ) → Answer
-only_nines n [] = Answer.Granted
+only_nines n [] = Ok tt
 only_nines n (r ∷ rs) = demand (same_bytes (take record_columns r) filler_record) (refusal Fault.Past n 0) (only_nines (n + 1) rs)
 
 abbrev pub behind_nine : List (List ℕ) → Answer
@@ -128,7 +128,7 @@ mend_answer way f n m =
     demand (length_fits way (length f)) (refusal Fault.Length 0 0)
     (and_then (checked_of way (mended_file way f)).answer
     (and_then (behind_nine (raw_records way f))
-    (demand (leb (length (mended_file way f)) n && leb (length (changes_of way f)) m) (refusal Fault.Room 0 0) Answer.Granted)))
+    (demand (leb (length (mended_file way f)) n && leb (length (changes_of way f)) m) (refusal Fault.Room 0 0) (Ok tt))))
 
 -- what mending answers, and the two lent buffers as it leaves them
 pub record Mending : Type 0 where

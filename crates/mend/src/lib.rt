@@ -1,12 +1,9 @@
 // Files mended, with a list: the type of the answer; the rest is definitions and their theorems.
 #![tactic(auto)]
 
-use layout::Answer;
-
-// What mending gives: the lengths of the mended file and of the changes, 0 on a refusal.
+// What mending puts: so many bytes of the mended file, and so many of the changes.
 #[derive(Clone, Copy)]
-pub struct Mended {
-    pub answer: Answer,
+pub struct Lengths {
     pub length: u64,
     pub listed: u64,
 }

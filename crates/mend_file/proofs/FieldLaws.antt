@@ -1,47 +1,45 @@
 -- The fields of two records one after the other: what the rows from one field on come to, and what they put.
 -- Assumes nothing but what a statement says.
-use mathlib.Core.Path.{◌≡◌, refl, sym, ap, ap₂, ◌∙◌}
+use mathlib.Core.Path.{◌≡◌, refl, sym, ap, ap₂, ◌∙◌, subst}
+use Rattle.std.proofs.lemmas.List.{get_or_default}
 use mathlib.Core.Bool.{Bool, true, false, ◌&&◌}
 use mathlib.Core.List.{List, [], ◌∷◌, ◌++◌, append-nil}
 use Prim.Native.Nat.{ℕ, suc, ◌+◌, ◌-◌, ◌*◌, ◌≤◌, ◌<◌}
 use native.Mathlib.Nat.{zero-add}
 use native.Mathlib.Omega.{arith}
 use borrow.Author.Tests.{leb-true}
-use lib.Dec.{leb}
+use lib.Dec.{eqb, leb}
+use lib.Pointwise.{pointwise}
 use lib.ListN.{length, get_or, take, drop, length-append, length-take, length-drop, drop_of_length-le}
 use lib.Seq.{sets, drop-cons}
 use Rattle.text.specs.Decimal.{pick, render}
 use Rattle.text.specs.Rows.{columns, joined}
 use Rattle.text.specs.Same.{same_bytes}
-use Rattle.text.proofs.DecimalLaws.{and_both, length_render}
+use Rattle.text.proofs.DecimalLaws.{length_render, same_is}
 use Rattle.text.proofs.RowLaws.{joined_append}
 use Rattle.layout.specs.declared.Row.{Row}
 use Rattle.layout.specs.declared.Line.{Line}
 use Rattle.layout.specs.Fields.{no_row, rows_of}
 use Rattle.layout.specs.WorkFits.{row_fits}
+use Rattle.layout.proofs.Tables.{row_in}
 use Rattle.table_form.proofs.FormLaws.{number_put}
-use Rattle.table_read.specs.WorkPasses.{between}
 use Rattle.table_read.specs.WorkPuts.{Puts, Room}
-use Rattle.table_read.proofs.Writing.{Left, left_room, left_next, left_end}
+use Rattle.table_read.proofs.Writing.{puts_both, room_front, room_rest, Left, left_room, left_next, left_end}
 use Rattle.mend.specs.Mend.{change_row, field_changes}
 use Rattle.mend_file.specs.declared.Listed.{Listed}
 use Rattle.mend_file.specs.WorkChanging.{listed_of, field_rows}
 
--- ---- a row of a field table lies in the record
+-- ---- the text of a field
 
-pub row_inside : (row : Row) → row_fits row ≡ true → (1 ≤ row.first) × (row.first ≤ row.last) × (row.last ≤ 94)
-row_inside row e =
-    let a = and_both (leb 1 row.first && leb row.first row.last && leb row.last 94) _ e in
-    let b = and_both (leb 1 row.first && leb row.first row.last) _ a.0 in
-    let d = and_both (leb 1 row.first) _ b.0 in
-    (leb-true 1 row.first d.0, leb-true row.first row.last d.1, leb-true row.last 94 b.1)
+-- a field's text in a record, as the code cuts it out
+pub text_of : (row : Row) (r : List ℕ) (end : ℕ) → row_fits row ≡ true → end ≡ row.last → take (end - (row.first - 1)) (drop (row.first - 1) r) ≡ columns row.first row.last r
+text_of row r end h e =
+    let inside = row_in row h in
+    let wide : end - (row.first - 1) ≡ row.last + 1 - row.first = omega (arith, inside.0, inside.1) in
+    ap (λ w. take w (drop (row.first - 1) r)) wide
 
--- the text of a field as the code cuts it out
-pub text_of : (first last from end : ℕ) (r : List ℕ) → from + 1 ≡ first → end ≡ last → take (end - from) (drop from r) ≡ columns first last r
-text_of first last from end r e q =
-    let wide : end - from ≡ last + 1 - first = omega arith in
-    let front : from ≡ first - 1 = omega arith in
-    ap₂ (λ w a. take w (drop a r)) wide front
+pub text_short : (row : Row) (r : List ℕ) → row_fits row ≡ true → length (columns row.first row.last r) ≤ 94
+text_short row r h = let inside = row_in row h in simp length-take (omega (arith, inside.0, inside.2))
 
 -- ---- one field
 
@@ -68,43 +66,66 @@ field_any n k row old new =
     let b = columns row.first row.last new in
     row_listed n k a b (same_bytes a b) ∙ sym (row_listed 0 1 a b (same_bytes a b))
 
--- as the code has it: the texts are cut out from `from` to `end`
-pub field_same : (row : Row) (old new : List ℕ) (from end : ℕ) → from + 1 ≡ row.first → end ≡ row.last → same_bytes (take (end - from) (drop from old)) (take (end - from) (drop from new)) ≡ true
-    → (n k : ℕ) → field_rows n k row old new ≡ []
-field_same row old new from end e q s n k =
-    let same = sym (ap₂ same_bytes (text_of row.first row.last from end old e q) (text_of row.first row.last from end new e q)) ∙ s in
-    ap (λ t. pick t [] (change_row n k (columns row.first row.last old) (columns row.first row.last new) ∷ [])) same
+-- by whether its texts are the same, as the code finds it
+module _ (n k : ℕ) (row : Row) (old new a b : List ℕ) (e : a ≡ columns row.first row.last old) (q : b ≡ columns row.first row.last new) where
+  field_by : (t : Bool) → t ≡ pointwise eqb a b → field_rows n k row old new ≡ pick t [] (change_row n k a b ∷ [])
+  field_by t h =
+      ap₂ (λ x y. pick (same_bytes x y) [] (change_row n k x y ∷ [])) (sym e) (sym q)
+      ∙ ap (λ t. pick t [] (change_row n k a b ∷ [])) (same_is a b ∙ sym h)
 
-pub field_differs : (row : Row) (old new : List ℕ) (from end : ℕ) → from + 1 ≡ row.first → end ≡ row.last → same_bytes (take (end - from) (drop from old)) (take (end - from) (drop from new)) ≡ false
-    → (n k : ℕ) → field_rows n k row old new ≡ change_row n k (between from end old) (between from end new) ∷ []
-field_differs row old new from end e q s n k =
-    let was = text_of row.first row.last from end old e q in
-    let is = text_of row.first row.last from end new e q in
-    let differ = sym (ap₂ same_bytes was is) ∙ s in
-    ap (λ t. pick t [] (change_row n k (columns row.first row.last old) (columns row.first row.last new) ∷ [])) differ
-    ∙ sym (ap₂ (λ a b. change_row n k a b ∷ []) was is)
+  pub field_same : (t : Bool) → t ≡ pointwise eqb a b → t ≡ true → field_rows n k row old new ≡ []
+  field_same t h s = field_by t h ∙ ap (λ t. pick t [] (change_row n k a b ∷ [])) s
 
-part_long : (from end : ℕ) (r : List ℕ) → from < end → end ≤ 94 → 94 ≤ length r → length (between from end r) ≡ end - from
-part_long from end r a b l = simp (length-take, length-drop) (omega arith)
+  pub field_differs : (t : Bool) → t ≡ pointwise eqb a b → t ≡ false → field_rows n k row old new ≡ change_row n k a b ∷ []
+  field_differs t h s = field_by t h ∙ ap (λ t. pick t [] (change_row n k a b ∷ [])) s
 
 pub none_listed : (rs : List (List ℕ)) → rs ≡ [] → record { rows = 0; bytes = 0 } ≡ listed_of rs
 unfolding joined
 none_listed rs e = sym (ap listed_of e)
 
-pub one_listed : (rs : List (List ℕ)) (n k from end : ℕ) (old new : List ℕ) → from < end → end ≤ 94 → 94 ≤ length old → 94 ≤ length new
-    → rs ≡ change_row n k (between from end old) (between from end new) ∷ [] → record { rows = 1; bytes = 9 + (end - from) + (end - from) } ≡ listed_of rs
-one_listed rs n k from end old new a b l m e =
-    sym (ap listed_of e ∙ row_listed n k (between from end old) (between from end new) false
-    ∙ ap₂ (row_size false) (part_long from end old a b l) (part_long from end new a b m))
-
--- the row put in four parts
-pub row_parts : (rs : List (List ℕ)) (n k : ℕ) (old new : List ℕ) → rs ≡ change_row n k old new ∷ [] → joined rs ≡ render 7 n ++ (render 2 k ++ (old ++ new))
-unfolding joined
-row_parts rs n k old new e = ap joined e ∙ append-nil (change_row n k old new)
+pub one_listed : (rs : List (List ℕ)) (n k : ℕ) (a b : List ℕ) → rs ≡ change_row n k a b ∷ [] → record { rows = 1; bytes = 9 + length a + length b } ≡ listed_of rs
+one_listed rs n k a b e = sym (ap listed_of e ∙ row_listed n k a b false)
 
 pub row_nothing : (rs : List (List ℕ)) → rs ≡ [] → joined rs ≡ []
 unfolding joined
 row_nothing rs e = ap joined e
+
+row_parts : (rs : List (List ℕ)) (n k : ℕ) (old new : List ℕ) → rs ≡ change_row n k old new ∷ [] → joined rs ≡ render 7 n ++ (render 2 k ++ (old ++ new))
+unfolding joined
+row_parts rs n k old new e = ap joined e ∙ append-nil (change_row n k old new)
+
+-- a row put in four parts
+module _ (n k : ℕ) (row : Row) (old new a b : List ℕ) (e : a ≡ columns row.first row.last old) (q : b ≡ columns row.first row.last new) (t : Bool) (h : t ≡ pointwise eqb a b) (s : t ≡ false)
+    {list : List ℕ} {to : ℕ} (room : Room (joined (field_rows n k row old new)) list to) where
+  parts : joined (field_rows n k row old new) ≡ render 7 n ++ (render 2 k ++ (a ++ b))
+  parts = row_parts (field_rows n k row old new) n k a b (field_differs n k row old new a b e q t h s)
+
+  whole : Room (render 7 n ++ (render 2 k ++ (a ++ b))) list to
+  whole = subst (λ x. Room x list to) parts room
+
+  pub number_room : Room (render 7 n) list to
+  number_room = room_front (render 7 n) (render 2 k ++ (a ++ b)) whole
+
+  module _ {l₁ : List ℕ} {t₁ : ℕ} (p₁ : Puts (render 7 n) list l₁ to t₁) where
+    numbered : Room (render 2 k ++ (a ++ b)) l₁ t₁
+    numbered = room_rest p₁ (render 2 k ++ (a ++ b)) whole
+
+    pub field_room : Room (render 2 k) l₁ t₁
+    field_room = room_front (render 2 k) (a ++ b) numbered
+
+    module _ {l₂ : List ℕ} {t₂ : ℕ} (p₂ : Puts (render 2 k) l₁ l₂ t₁ t₂) where
+      texts : Room (a ++ b) l₂ t₂
+      texts = room_rest p₂ (a ++ b) numbered
+
+      pub old_room : Room a l₂ t₂
+      old_room = room_front a b texts
+
+      module _ {l₃ : List ℕ} {t₃ : ℕ} (p₃ : Puts a l₂ l₃ t₂ t₃) where
+        pub new_room : Room b l₃ t₃
+        new_room = room_rest p₃ b texts
+
+        pub row_put : {l₄ : List ℕ} {t₄ : ℕ} → Puts b l₃ l₄ t₃ t₄ → Puts (joined (field_rows n k row old new)) list l₄ to t₄
+        row_put {l₄} {t₄} p₄ = subst (λ x. Puts x list l₄ to t₄) (sym parts) (puts_both p₁ (puts_both p₂ (puts_both p₃ p₄)))
 
 -- a number put in a part of the list
 pub digits_put : (r ys : List ℕ) (wide n to end : ℕ) → end ≡ to + wide → to + length (render wide n) ≤ length r → ys ≡ render (length (take (end - to) (drop to r))) n
@@ -118,6 +139,10 @@ digits_put r ys wide n to end q room e =
     }
 
 -- ---- the fields from one on
+
+-- a row of the table, as a loop reads it
+pub row_read : (line : Line) (rows : List Row) (k : ℕ) (d : Row) → rows ≡ rows_of line → k < length rows → get_or rows k d ≡ get_or (rows_of line) k no_row
+row_read line rows k d e h = get_or_default rows k d no_row h ∙ ap (λ x. get_or x k no_row) e
 
 module _ (table : List Row) (old new : List ℕ) where
   pub fields_next : (n i : ℕ) → i < length table
@@ -179,18 +204,18 @@ module _ (table : List Row) (old new : List ℕ) where
     abbrev pub FieldsLeft : List ℕ → ℕ → ℕ → Type 0
     FieldsLeft here to i = Left (joined (field_changes n (i + 1) (drop i table) old new)) (joined (field_changes n 1 table old new)) was here start to
 
-    module _ (i : ℕ) (h : i < length table) where
-      next_parts : joined (field_changes n (i + 1) (drop i table) old new) ≡ joined (field_rows n (i + 1) (get_or table i no_row) old new) ++ joined (field_changes n (i + 1 + 1) (drop (i + 1) table) old new)
-      next_parts = ap joined (fields_next n i h) ∙ joined_append (field_rows n (i + 1) (get_or table i no_row) old new) (field_changes n (i + 1 + 1) (drop (i + 1) table) old new)
+    module _ (i : ℕ) (h : i < length table) (row : Row) (e : row ≡ get_or table i no_row) where
+      next_parts : joined (field_changes n (i + 1) (drop i table) old new) ≡ joined (field_rows n (i + 1) row old new) ++ joined (field_changes n (i + 1 + 1) (drop (i + 1) table) old new)
+      next_parts =
+          ap joined (fields_next n i h ∙ ap (λ x. field_rows n (i + 1) x old new ++ field_changes n (i + 1 + 1) (drop (i + 1) table) old new) (sym e))
+          ∙ joined_append (field_rows n (i + 1) row old new) (field_changes n (i + 1 + 1) (drop (i + 1) table) old new)
 
-      pub fields_room : {here : List ℕ} {to : ℕ} → FieldsLeft here to i → Room (joined (field_changes n 1 table old new)) was start
-          → Room (joined (field_rows n (i + 1) (get_or table i no_row) old new)) here to
-      fields_room left room = left_room left (joined (field_rows n (i + 1) (get_or table i no_row) old new)) (joined (field_changes n (i + 1 + 1) (drop (i + 1) table) old new)) next_parts room
+      pub fields_room : {here : List ℕ} {to : ℕ} → FieldsLeft here to i → Room (joined (field_changes n 1 table old new)) was start → Room (joined (field_rows n (i + 1) row old new)) here to
+      fields_room left room = left_room left (joined (field_rows n (i + 1) row old new)) (joined (field_changes n (i + 1 + 1) (drop (i + 1) table) old new)) next_parts room
 
-      pub fields_on : {here after : List ℕ} {to next : ℕ} → FieldsLeft here to i → Puts (joined (field_rows n (i + 1) (get_or table i no_row) old new)) here after to next
-          → FieldsLeft after next (i + 1)
+      pub fields_on : {here after : List ℕ} {to next : ℕ} → FieldsLeft here to i → Puts (joined (field_rows n (i + 1) row old new)) here after to next → FieldsLeft after next (i + 1)
       fields_on {here} {after} {to} {next} left p =
-          left_next left (joined (field_rows n (i + 1) (get_or table i no_row) old new)) (joined (field_changes n (i + 1 + 1) (drop (i + 1) table) old new)) after next next_parts p
+          left_next left (joined (field_rows n (i + 1) row old new)) (joined (field_changes n (i + 1 + 1) (drop (i + 1) table) old new)) after next next_parts p
 
     pub fields_done : {here : List ℕ} {to i : ℕ} → length table ≤ i → FieldsLeft here to i → Puts (joined (field_changes n 1 table old new)) was here start to
     unfolding joined

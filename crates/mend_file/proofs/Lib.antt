@@ -1,3 +1,4 @@
+pub mod RecordLaws
 pub mod FieldLaws
 pub mod FillerLaws
 pub mod ListLaws

@@ -1,30 +1,28 @@
 -- Mending from what is known before a byte is put: the room, the answer, and what is left in the buffers.
 -- Assumes nothing but what a statement says.
+use Rattle.std.specs.Prelude.{Ok, Err}
 use mathlib.Core.Path.{◌≡◌, refl, sym, ap, ap₂, ◌∙◌}
-use mathlib.Core.Bool.{Bool, true, false, ◌&&◌}
+use mathlib.Core.Bool.{true, false, ◌&&◌}
+use mathlib.Core.Logic.{◌⊎◌, inl, inr}
 use mathlib.Core.List.{List, ◌++◌}
 use Prim.Native.Nat.{ℕ, ◌+◌, ◌-◌, ◌≤◌, ◌<◌}
 use native.Mathlib.Nat.{zero-add}
 use native.Mathlib.Omega.{arith}
-use borrow.Author.Tests.{lt-leb}
+use borrow.Author.Tests.{lt-leb, le-leb}
 use lib.Dec.{leb}
 use lib.ListN.{length, take, drop, length-append, length-drop}
 use lib.Seq.{sets-eq, take_at}
-use Rattle.layout.specs.declared.Answer.{Answer}
 use Rattle.layout.specs.declared.Refusal.{Refusal}
 use Rattle.layout.specs.declared.Way.{Way}
 use Rattle.table_read.specs.WorkPuts.{Puts, Room}
-use Rattle.mend.specs.declared.Mended.{Mended}
+use Rattle.mend.specs.Mended.{Mended}
 use Rattle.mend.specs.Mend.{Mending, mended_file, changes_of, mend_answer, mend_of}
 use Rattle.mend.proofs.Granted.{exactly_granted, mend_granted, mend_refused}
 
 -- "23 if either buffer is short"
-pub file_short : (long room : ℕ) (other : Bool) → room < long → (leb long room && other) ≡ false
-file_short long room other h = ap (λ t. t && other) (lt-leb long room h)
-
-pub list_short : (first : Bool) (long room : ℕ) → room < long → (first && leb long room) ≡ false
-list_short true long room h = lt-leb long room h
-list_short false long room h = refl
+pub rooms_short : (long n other m : ℕ) → (n < long) ⊎ ((long ≤ n) × (m < other)) → (leb long n && leb other m) ≡ false
+rooms_short long n other m (inl h) = ap (λ t. t && leb other m) (lt-leb long n h)
+rooms_short long n other m (inr h) = rw (le-leb long n h.0) (lt-leb other m h.1)
 
 module _ (way : Way) (f : List ℕ) where
   -- an outcome: the answer, and what the two buffers then hold
@@ -33,14 +31,14 @@ module _ (way : Way) (f : List ℕ) where
       (r ≡ (mend_of way f held list).gives) × (left ≡ (mend_of way f held list).leaves) × (changes ≡ (mend_of way f held list).changes)
 
   -- what a refusal leaves
-  pub mends_refused : (held list : List ℕ) (r : Refusal) → mend_answer way f (length held) (length list) ≡ Answer.Refused r
-      → Mends held list (record { answer = Answer.Refused r; length = 0; listed = 0 }) held list
+  pub mends_refused : (held list : List ℕ) (r : Refusal) → mend_answer way f (length held) (length list) ≡ Err r
+      → Mends held list (record { answer = Err r; length = 0; listed = 0 }) held list
   mends_refused held list r e =
       let o = mend_refused way f held list r e in
       (sym (ap (λ (m : Mending). m.gives) o), sym (ap (λ (m : Mending). m.leaves) o), sym (ap (λ (m : Mending). m.changes) o))
 
   -- and what a grant does: m is the mended file in front of what was there, and l has the changes put in front
-  module _ (held list : List ℕ) (e : mend_answer way f (length held) (length list) ≡ Answer.Granted) where
+  module _ (held list : List ℕ) (e : mend_answer way f (length held) (length list) ≡ Ok tt) where
     pub file_room : length (mended_file way f) ≤ length held
     file_room = ((exactly_granted way f (length held) (length list)).0 e).room
 
@@ -49,11 +47,11 @@ module _ (way : Way) (f : List ℕ) where
 
     pub mends_granted : (size bytes : ℕ) (m l : List ℕ) {next : ℕ} → size ≡ length (mended_file way f) → bytes ≡ length (changes_of way f)
         → m ≡ mended_file way f ++ drop (length (mended_file way f)) held → Puts (changes_of way f) list l 0 next
-        → Mends held list (record { answer = Answer.Granted; length = size; listed = bytes }) m l
+        → Mends held list (record { answer = Ok tt; length = size; listed = bytes }) m l
     mends_granted size bytes m l s b q p =
         let o = mend_granted way f held list e in
         let put : l ≡ changes_of way f ++ drop (length (changes_of way f)) list = p.stands ∙ sets-eq (changes_of way f) list 0 list_room.fits ∙ rw zero-add refl in (
-          ap₂ (λ x y. record { answer = Answer.Granted; length = x; listed = y }) s b ∙ sym (ap (λ (m : Mending). m.gives) o),
+          ap₂ (λ x y. record { answer = Ok tt; length = x; listed = y }) s b ∙ sym (ap (λ (m : Mending). m.gives) o),
           q ∙ sym (ap (λ (m : Mending). m.leaves) o),
           put ∙ sym (ap (λ (m : Mending). m.changes) o),
         )

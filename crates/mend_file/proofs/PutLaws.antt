@@ -4,32 +4,30 @@ use mathlib.Core.Path.{◌≡◌, refl, sym, ap, ap₂, ◌∙◌, subst}
 use mathlib.Core.Bool.{true, ◌&&◌}
 use mathlib.Core.List.{List, [], ◌∷◌, ◌++◌}
 use Prim.Native.Nat.{ℕ, suc, ◌+◌, ◌-◌, ◌*◌, ◌≤◌, ◌<◌}
-use native.Mathlib.Nat.{zero-add}
+use native.Mathlib.Nat.{zero-add, mul-zero}
 use native.Mathlib.Omega.{arith}
 use lib.Dec.{eqb, ltb}
-use lib.ListN.{length, take, drop, replicate, length-append, length-drop, length-replicate}
+use lib.ListN.{length, get_or, take, drop, replicate, length-append, length-drop, length-replicate}
 use lib.Seq.{sets, sets-eq, take_all, length-sets}
 use Rattle.text.specs.Rows.{joined}
-use Rattle.text.specs.Widths.{AllLong}
 use Rattle.text.proofs.RowLaws.{length_joined}
 use Rattle.text.proofs.SetLaws.{sets_append}
 use Rattle.layout.specs.declared.Way.{Way}
 use Rattle.layout.specs.Ways.{end_of, record_bytes}
 use Rattle.check_across.specs.declared.Sums.{Sums}
 use Rattle.check_across.specs.WorkSmall.{Small}
-use Rattle.check_sums.specs.declared.State.{State}
-use Rattle.check_sums.specs.WorkFair.{Fair}
 use Rattle.check_sums.specs.Sums.{start}
-use Rattle.check_record.specs.Record.{length_fits}
-use Rattle.check_record.proofs.Ways.{raw_from, raw_at, raw_long, raw_whole}
+use Rattle.check_record.specs.Record.{raw_records}
 use Rattle.view.specs.View.{fillers_after, filler_record, closed_by}
 use Rattle.table_form.specs.Forms.{file_control_from}
-use Rattle.table_write.proofs.PassLaws.{Left, left_first, left_on, left_length}
-use Rattle.mend.specs.Mend.{type_of, sums_past, header_past, refilled, mended_record, mended_end, mended_from, mended_file}
+use Rattle.table_read.specs.WorkPuts.{Puts, Room}
+use Rattle.table_read.proofs.Writing.{puts_both, puts_none, Left, left_start, left_long, left_room, left_next, left_end}
+use Rattle.mend.specs.Mend.{type_of, sums_past, header_past, refilled, mended_record, mended_from, mended_file, nine_at}
 use Rattle.mend.proofs.Again.{file_long, record_long, refilled_long, fillers_long}
 use Rattle.mend_file.specs.WorkJudging.{NineAt}
 use Rattle.mend_file.specs.WorkRenewing.{end_from, Bodied}
-use Rattle.mend_file.proofs.WalkLaws.{past_sums, past_header, next_inside, one_more, Walked, walked_first, walked_room, walked_few, walked_parts, walked_ends, walked_on, counted_all}
+use Rattle.mend_file.proofs.RecordLaws.{At, at_long}
+use Rattle.mend_file.proofs.WalkLaws.{past_sums, past_header, nine_there, Walked, walked_first, walked_parts, walked_ends, walked_on}
 
 joined_cons : (x : List ℕ) (xs : List (List ℕ)) → joined (x ∷ xs) ≡ x ++ joined xs
 unfolding joined
@@ -52,204 +50,155 @@ refilled_put m c r at l h =
 abbrev pub fillers_of : Way → ℕ → List ℕ
 fillers_of way n = joined (replicate n (closed_by way filler_record))
 
-pub fillers_on : (way : Way) (m : List ℕ) (to k : ℕ) → 0 < k
-    → sets (sets (sets m to filler_record) (to + 94) (end_of way)) (to + record_bytes way) (fillers_of way (k - 1)) ≡ sets m to (fillers_of way k)
-fillers_on way m to k h =
-    let one : k ≡ suc (k - 1) = omega arith in
-    let c = closed_by way filler_record in
-    let rest = fillers_of way (k - 1) in
-    ap (λ x. sets x (to + record_bytes way) rest) (sym (sets_append m to filler_record (end_of way)))
-    ∙ ap (λ n. sets (sets m to c) (to + n) rest) (sym (length-append filler_record (end_of way)))
-    ∙ sym (sets_append m to c rest)
-    ∙ ap (sets m to) (sym (joined_cons c (replicate (k - 1) c)))
-    ∙ ap (λ n. sets m to (fillers_of way n)) (sym one)
+fillers_size : (way : Way) (n : ℕ) → length (fillers_of way n) ≡ record_bytes way * n
+fillers_size way n =
+    length_joined (record_bytes way) (replicate n (closed_by way filler_record)) (fillers_long way n) ∙ ap (λ k. record_bytes way * k) (length-replicate n (closed_by way filler_record))
 
-pub fillers_end : (way : Way) (m : List ℕ) (to k : ℕ) → k ≤ 0 → sets m to (fillers_of way k) ≡ m
-fillers_end way m to k h = let none : k ≡ 0 = omega arith in ap (λ n. sets m to (fillers_of way n)) none ∙ ap (sets m to) joined_none
+filler_size : (way : Way) → length (closed_by way filler_record) ≡ record_bytes way
+filler_size way = (fillers_long way 1).0
 
--- room for one, and for the others behind it
-pub fillers_room : (way : Way) (to k n : ℕ) → 0 < k → to + record_bytes way * k ≤ n → to + record_bytes way + record_bytes way * (k - 1) ≤ n
-fillers_room Way.Plain to k n h l = omega arith
-fillers_room Way.Lined to k n h l = omega arith
+module _ (way : Way) (was : List ℕ) (start n : ℕ) where
+  -- i of them are put
+  abbrev pub FillersLeft : List ℕ → ℕ → ℕ → Type 0
+  FillersLeft here to i = Left (fillers_of way (n - i)) (fillers_of way n) was here start to
 
-pub filler_fits : (way : Way) (to k n : ℕ) → 0 < k → to + record_bytes way * k ≤ n → to + record_bytes way ≤ n
-filler_fits Way.Plain to k n h l = omega arith
-filler_fits Way.Lined to k n h l = omega arith
+  fillers_fit : start + record_bytes way * n ≤ length was → Room (fillers_of way n) was start
+  fillers_fit room = record { fits = omega (arith, fillers_size way n) }
 
--- `left` fillers are still to put at `to`, of `left₀` at `to₀`
-pub record Filling (way : Way) (m₀ : List ℕ) (to₀ left₀ : ℕ) (m : List ℕ) (to left : ℕ) : Type 0 where
-  pub room : to + record_bytes way * left ≤ length m
-  pub long : length m ≡ length m₀
-  pub makes : sets m to (fillers_of way left) ≡ sets m₀ to₀ (fillers_of way left₀)
+  module _ {here : List ℕ} {to i : ℕ} (left : FillersLeft here to i) (h : i < n) where
+    more_fillers : fillers_of way (n - i) ≡ closed_by way filler_record ++ fillers_of way (n - (i + 1))
+    more_fillers =
+        let one : n - i ≡ suc (n - (i + 1)) = omega arith in
+        ap (fillers_of way) one ∙ joined_cons (closed_by way filler_record) (replicate (n - (i + 1)) (closed_by way filler_record))
 
-pub filling_fits : (way : Way) (m₀ : List ℕ) (to₀ left₀ : ℕ) (m : List ℕ) (to left : ℕ) → Filling way m₀ to₀ left₀ m to left → 0 < left → to + record_bytes way ≤ length m
-filling_fits way m₀ to₀ left₀ m to left p h = filler_fits way to left (length m) h p.room
+    pub filler_room : start + record_bytes way * n ≤ length was → to + record_bytes way ≤ length here
+    filler_room room =
+        let r : Room (closed_by way filler_record) here to = left_room left (closed_by way filler_record) (fillers_of way (n - (i + 1))) more_fillers (fillers_fit room) in
+        omega (arith, r.fits, filler_size way)
 
-pub filling_on : (way : Way) (m₀ : List ℕ) (to₀ left₀ : ℕ) (m : List ℕ) (to left : ℕ) (filler m₁ m₂ : List ℕ) → 0 < left → filler ≡ filler_record → m₁ ≡ sets m to filler
-    → m₂ ≡ sets m₁ (to + 94) (end_of way) → Filling way m₀ to₀ left₀ m to left → Filling way m₀ to₀ left₀ m₂ (to + record_bytes way) (left - 1)
-filling_on way m₀ to₀ left₀ m to left filler m₁ m₂ h e f g p =
-    let made : m₂ ≡ sets (sets m to filler_record) (to + 94) (end_of way) = g ∙ ap (λ x. sets x (to + 94) (end_of way)) (f ∙ ap (sets m to) e) in
-    let long : length m₂ ≡ length m = ap length made ∙ length-sets (sets m to filler_record) (to + 94) (end_of way) ∙ length-sets m to filler_record in
-    record {
-      room = subst (λ n. to + record_bytes way + record_bytes way * (left - 1) ≤ n) (sym long) (fillers_room way to left (length m) h p.room);
-      long = long ∙ p.long;
-      makes = ap (λ x. sets x (to + record_bytes way) (fillers_of way (left - 1))) made ∙ fillers_on way m to left h ∙ p.makes;
-    }
-
-pub filling_end : (way : Way) (m₀ : List ℕ) (to₀ left₀ : ℕ) (m : List ℕ) (to left : ℕ) → Filling way m₀ to₀ left₀ m to left → left ≤ 0 → m ≡ sets m₀ to₀ (fillers_of way left₀)
-filling_end way m₀ to₀ left₀ m to left p h = sym (fillers_end way m to left h) ∙ p.makes
-
-module _ (way : Way) (f held : List ℕ) where
-  -- on the walk along the records before the 9, the mended file from byte `at` on is still to put
-  pub record Putting (last : ℕ) (s : Sums) (h m : List ℕ) (at left : ℕ) : Type 0 where
-    pub walk : Walked way f last s h at left
-    pub makes : Left (mended_file way f) held m at (joined (mended_from way last s h (raw_from way f at)))
-
-  abbrev pub Put : Sums → List ℕ → List ℕ → ℕ → ℕ → Type 0
-  Put s h m at left = (last : ℕ) × Putting last s h m at left
-
-  first : (n : ℕ) → NineAt way f n → length (mended_file way f) ≤ length held → Fair start → Put start.sums start.header held 0 n
-  first n a room g = (
-    0,
-    record {
-      walk = walked_first way f n a g;
-      makes =
-          left_first (mended_file way f) held (joined (mended_from way 0 start.sums start.header (raw_from way f 0)))
-          (ap (λ rs. joined (mended_from way 0 start.sums start.header rs)) (raw_whole way f)) room;
-    },
-  )
-
-  pub put_first : (st : State) (n : ℕ) → st ≡ start → Fair st → NineAt way f n → length (mended_file way f) ≤ length held → Put st.sums st.header held 0 n
-  put_first st n e g a room = subst (λ (x : State). Put x.sums x.header held 0 n) (sym e) (first n a room (subst Fair e g))
-
-  module _ (n : ℕ) (a : NineAt way f n) (last : ℕ) (s : Sums) (h m : List ℕ) (at left : ℕ) (p : Putting last s h m at left) where
-    abbrev r : List ℕ
-    r = raw_at way f at
-
-    abbrev rest : List (List ℕ)
-    rest = raw_from way f (at + record_bytes way)
-
-    parts : 0 < left → joined (mended_from way last s h (raw_from way f at)) ≡ mended_record s h r ++ joined (mended_from way (type_of r) (sums_past s r) (header_past h r) rest)
-    parts k =
-        ap joined (walked_parts way f n a last s h at left p.walk k)
-        ∙ joined_cons (mended_record s h r) (mended_from way (type_of r) (sums_past s r) (header_past h r) rest)
-
-    part_long : length (mended_record s h r) ≡ record_bytes way
-    part_long = record_long way s h r (eqb (type_of r) 56 && ltb 0 s.batches) p.walk.header (raw_long way f at (walked_room way f n a last s h at left p.walk))
-
-    part_room : 0 < left → at + record_bytes way ≤ length m
-    part_room k =
-        omega (arith, p.makes.room, ap length (parts k), length-append (mended_record s h r) (joined (mended_from way (type_of r) (sums_past s r) (header_past h r) rest)), part_long)
-
-    putting_on : 0 < left → Small (sums_past s r) → Putting (type_of r) (sums_past s r) (header_past h r) (sets m at (mended_record s h r)) (at + record_bytes way) (left - 1)
-    putting_on k small =
+    pub fillers_on : (filler m₁ m₂ : List ℕ) → filler ≡ filler_record → m₁ ≡ sets here to filler → m₂ ≡ sets m₁ (to + 94) (end_of way) → FillersLeft m₂ (to + record_bytes way) (i + 1)
+    fillers_on filler m₁ m₂ e f g =
+        left_next left (closed_by way filler_record) (fillers_of way (n - (i + 1))) m₂ (to + record_bytes way) more_fillers
         record {
-          walk = walked_on way f n a last s h at left p.walk k small;
-          makes = left_on (mended_record s h r) (joined (mended_from way (type_of r) (sums_past s r) (header_past h r) rest)) (record_bytes way) (parts k) part_long p.makes;
+          stands = g ∙ ap (λ x. sets x (to + 94) (end_of way)) (f ∙ ap (sets here to) e) ∙ sym (sets_append here to filler_record (end_of way));
+          behind = ap (λ k. to + k) (sym (filler_size way));
         }
 
-    bodied : left ≤ 0 → Bodied way f held s m
-    bodied k =
-        let ends = ap joined (walked_ends way f n a last s h at left p.walk k) in
-        let done : Left (mended_file way f) held m (record_bytes way * s.records) (end_from way f s) =
-        subst (λ b. Left (mended_file way f) held m b (joined (mended_end way s (raw_at way f b)))) p.walk.place (subst (λ more. Left (mended_file way f) held m at more) ends p.makes) in
-        record { small = p.walk.small; count = counted_all way f n a last s h at left p.walk k; room = done.room; makes = done.makes }
+  pub fillers_done : {here : List ℕ} {to i : ℕ} → n ≤ i → FillersLeft here to i → here ≡ sets was start (fillers_of way n)
+  fillers_done {here} {to} {i} h left = let none : n - i ≡ 0 = omega arith in (left_end left (ap (fillers_of way) none ∙ joined_none)).stands
 
-  -- ---- as the code has it
+-- ---- the records before the 9
 
-  module _ (n : ℕ) (a : NineAt way f n) (s : Sums) (h m : List ℕ) (at left : ℕ) (p : Put s h m at left) where
-    pub put_inside : at + record_bytes way ≤ length f
-    put_inside = walked_room way f n a p.0 s h at left p.1.walk
+module _ (way : Way) (f held : List ℕ) where
+  abbrev olds : List (List ℕ)
+  olds = raw_records way f
 
-    pub put_room : 0 < left → at + record_bytes way ≤ length m
-    put_room k = part_room n a p.0 s h m at left p.1 k
+  -- k records are put, and the mended file behind them is still to put
+  pub record Putting (last : ℕ) (s : Sums) (h m : List ℕ) (k : ℕ) : Type 0 where
+    pub walk : Walked way f last s h k
+    pub left : Left (joined (mended_from way last s h (drop k olds))) (mended_file way f) held m 0 (record_bytes way * k)
 
-    pub put_few : length_fits way (length f) ≡ true → 0 < left → s.records < 1000000
-    put_few b k = walked_few way f n a p.0 s h at left p.1.walk b
+  abbrev pub Put : Sums → List ℕ → List ℕ → ℕ → Type 0
+  Put s h m k = (last : ℕ) × Putting last s h m k
 
-    pub put_on : (raw : List ℕ) (s' : Sums) (h' m' : List ℕ) → 0 < left → raw ≡ raw_at way f at → s' ≡ sums_past s (take 94 raw) → Small s' → h' ≡ header_past h (take 94 raw)
-        → m' ≡ sets m at (mended_record s h raw) → Put s' h' m' (at + record_bytes way) (left - 1)
-    put_on raw s' h' m' k q e small g d =
-        let sums = e ∙ past_sums s raw ∙ ap (sums_past s) q in
-        let header = g ∙ past_header h raw ∙ ap (header_past h) q in
-        let made = d ∙ ap (λ x. sets m at (mended_record s h x)) q in
-        let on : Put (sums_past s (raw_at way f at)) (header_past h (raw_at way f at)) (sets m at (mended_record s h (raw_at way f at))) (at + record_bytes way) (left - 1) =
-        (type_of (raw_at way f at), putting_on n a p.0 s h m at left p.1 k (subst Small sums small)) in
-        subst (λ x. Put s' h' x (at + record_bytes way) (left - 1)) (sym made)
-        (subst (λ x. Put s' x (sets m at (mended_record s h (raw_at way f at))) (at + record_bytes way) (left - 1)) (sym header)
-        (subst (λ x. Put x (header_past h (raw_at way f at)) (sets m at (mended_record s h (raw_at way f at))) (at + record_bytes way) (left - 1)) (sym sums) on))
+  pub put_first : (s : Sums) (h : List ℕ) → s ≡ start.sums → h ≡ start.header → Put s h held 0
+  put_first s h e q =
+      let first : Putting 0 start.sums start.header held 0 =
+      record { walk = walked_first way f; left = subst (λ to. Left (mended_file way f) (mended_file way f) held held 0 to) (sym (mul-zero (record_bytes way))) (left_start (mended_file way f) held 0) } in
+      subst (λ x. Put s x held 0) (sym q) (subst (λ x. Put x start.header held 0) (sym e) (0, first))
 
-    pub put_end : left ≤ 0 → Bodied way f held s m
-    put_end k = bodied n a p.0 s h m at left p.1 k
+  pub put_long : (s : Sums) (h m : List ℕ) (k : ℕ) → Put s h m k → length m ≡ length held
+  put_long s h m k p = left_long p.1.left
 
-    pub put_long : length m ≡ length held
-    put_long = left_length p.1.makes
+  module _ (s : Sums) (h m : List ℕ) (k : ℕ) (p : Put s h m k) (r : List ℕ) (a : At olds k r) where
+    abbrev rest : List ℕ
+    rest = joined (mended_from way (type_of r) (sums_past s r) (header_past h r) (drop (k + 1) olds))
 
-  -- the 9 and the fillers: `at` is where the 9 stands
-  module _ (n : ℕ) (a : NineAt way f n) (s : Sums) (m : List ℕ) (b : Bodied way f held s m) where
-    pub counted_before : s.records ≡ n
-    counted_before = b.count ∙ sym a.before
+    parts : k < nine_at olds → joined (mended_from way p.0 s h (drop k olds)) ≡ mended_record s h r ++ rest
+    parts l = ap joined (walked_parts way f p.0 s h k p.1.walk r a l) ∙ joined_cons (mended_record s h r) (mended_from way (type_of r) (sums_past s r) (header_past h r) (drop (k + 1) olds))
 
-    nine_room : record_bytes way * s.records + record_bytes way ≤ length f
-    nine_room = next_inside way (record_bytes way * s.records) s.records n (length f) refl (omega (arith, counted_before)) a.inside
+    part_long : length (mended_record s h r) ≡ record_bytes way
+    part_long = record_long way s h r (eqb (type_of r) 56 && ltb 0 s.batches) p.1.walk.header (at_long way f k r a)
 
-    end_long : length (end_from way f s) ≡ record_bytes way + record_bytes way * fillers_after (s.records + 1)
-    end_long =
-        let r = raw_at way f (record_bytes way * s.records) in
-        let long : AllLong (record_bytes way) (mended_end way s r) =
-        (refilled_long way (file_control_from s) r (file_long s) (raw_long way f (record_bytes way * s.records) nine_room), fillers_long way (fillers_after (s.records + 1))) in
-        length_joined (record_bytes way) (mended_end way s r) long
-        ∙ ap (λ k. record_bytes way * suc k) (length-replicate (fillers_after (s.records + 1)) (closed_by way filler_record))
-        ∙ one_more way (fillers_after (s.records + 1))
+    -- there is room for it
+    pub put_room : k < nine_at olds → length (mended_file way f) ≤ length held → record_bytes way * k + length r ≤ length m
+    put_room l room =
+        let whole : Room (mended_file way f) held 0 = record { fits = omega arith } in
+        let here : Room (mended_record s h r) m (record_bytes way * k) = left_room p.1.left (mended_record s h r) rest (parts l) whole in
+        omega (arith, here.fits, part_long, at_long way f k r a)
 
-    -- the 9 stands in the lent file, and there is room for it and for the fillers
-    pub nine_within : record_bytes way * n + record_bytes way ≤ length f
-    nine_within = next_inside way (record_bytes way * n) n n (length f) refl (omega arith) a.inside
+    pub put_on : (s' : Sums) (h' m' : List ℕ) → k < nine_at olds → s' ≡ sums_past s (take 94 r) → h' ≡ header_past h (take 94 r) → m' ≡ sets m (record_bytes way * k) (mended_record s h r) → Put s' h' m' (k + 1)
+    put_on s' h' m' l e g d =
+        let next : Puts (mended_record s h r) m m' (record_bytes way * k) (record_bytes way * (k + 1)) =
+        record { stands = d; behind = one_on way k ∙ ap (λ n. record_bytes way * k + n) (sym part_long) } in
+        let on : Put (sums_past s r) (header_past h r) m' (k + 1) =
+        (type_of r, record { walk = walked_on way f p.0 s h k p.1.walk r a l; left = left_next p.1.left (mended_record s h r) rest m' (record_bytes way * (k + 1)) (parts l) next }) in
+        subst (λ x. Put s' x m' (k + 1)) (sym (g ∙ past_header h r)) (subst (λ x. Put x (header_past h r) m' (k + 1)) (sym (e ∙ past_sums s r)) on)
+      where
+        one_on : (way : Way) (k : ℕ) → record_bytes way * (k + 1) ≡ record_bytes way * k + record_bytes way
+        one_on Way.Plain k = omega arith
+        one_on Way.Lined k = omega arith
 
-    pub end_room : record_bytes way * n + record_bytes way + record_bytes way * fillers_after (n + 1) ≤ length m
+  -- n records are put, and the next is the 9
+  pub put_end : (s : Sums) (h m : List ℕ) (n k : ℕ) → NineAt way f n → Small s → k ≡ n → Put s h m k → Bodied way f held s m
+  put_end s h m n k a small z p =
+      let at_nine = z ∙ a.before in
+      let nine : At olds k (get_or olds (nine_at olds) []) =
+      subst (λ i. At olds i (get_or olds (nine_at olds) [])) (sym at_nine) (subst (λ i. At olds i (get_or olds i [])) a.before (nine_there way f n a)) in
+      let ends = ap joined (walked_ends way f p.0 s h k p.1.walk (get_or olds (nine_at olds) []) nine (omega (arith, at_nine))) in
+      record {
+        small = small;
+        count = p.1.walk.count ∙ at_nine;
+        left =
+            subst (λ i. Left (end_from way f s) (mended_file way f) held m 0 (record_bytes way * i)) at_nine
+            (subst (λ x. Left x (mended_file way f) held m 0 (record_bytes way * k)) ends p.1.left);
+      }
+
+  -- ---- the 9 and the fillers
+
+  module _ (n : ℕ) (a : NineAt way f n) (s : Sums) (m : List ℕ) (b : Bodied way f held s m) (room : length (mended_file way f) ≤ length held) (r : List ℕ) (q : r ≡ get_or olds n []) where
+    nine : At olds n r
+    nine = subst (λ x. At olds n x) (sym q) (nine_there way f n a)
+
+    abbrev control : List ℕ
+    control = refilled (file_control_from s) r
+
+    abbrev behind : List ℕ
+    behind = fillers_of way (fillers_after (n + 1))
+
+    control_long : length control ≡ record_bytes way
+    control_long = refilled_long way (file_control_from s) r (file_long s) (at_long way f n r nine)
+
+    end_parts : end_from way f s ≡ control ++ behind
+    end_parts =
+        let counted = b.count ∙ sym a.before in
+        let here : get_or olds (nine_at olds) [] ≡ r = ap (λ i. get_or olds i []) (sym a.before) ∙ sym q in
+        joined_cons (refilled (file_control_from s) (get_or olds (nine_at olds) [])) (replicate (fillers_after (s.records + 1)) (closed_by way filler_record))
+        ∙ ap₂ (λ x i. refilled (file_control_from s) x ++ fillers_of way (fillers_after (i + 1))) here counted
+
+    here_left : Left (control ++ behind) (mended_file way f) held m 0 (record_bytes way * n)
+    here_left =
+        subst (λ i. Left (control ++ behind) (mended_file way f) held m 0 (record_bytes way * i)) (sym a.before)
+        (subst (λ x. Left x (mended_file way f) held m 0 (record_bytes way * nine_at olds)) end_parts b.left)
+
+    end_room : record_bytes way * n + record_bytes way + record_bytes way * fillers_after (n + 1) ≤ length m
     end_room =
-        subst (λ k. record_bytes way * k + record_bytes way + record_bytes way * fillers_after (k + 1) ≤ length m) counted_before
-        (sum_le (record_bytes way * s.records) (record_bytes way) (record_bytes way * fillers_after (s.records + 1)) (length (end_from way f s)) (length m) b.room end_long)
-      where
-        sum_le : (x y z e k : ℕ) → x + e ≤ k → e ≡ y + z → x + y + z ≤ k
-        sum_le x y z e k l q = omega arith
+        omega (arith, left_long here_left, here_left.behind, length-append control behind, control_long, fillers_size way (fillers_after (n + 1)))
 
-    pub control_room : record_bytes way * n + record_bytes way ≤ length m
-    control_room = le_part (record_bytes way * n + record_bytes way) (record_bytes way * fillers_after (n + 1)) (length m) end_room
-      where
-        le_part : (x y k : ℕ) → x + y ≤ k → x ≤ k
-        le_part x y k l = omega arith
+    pub control_room : record_bytes way * n + length r ≤ length m
+    control_room = omega (arith, end_room, at_long way f n r nine)
 
-    done_by : (control raw m₁ m₂ : List ℕ) → control ≡ file_control_from s → raw ≡ raw_at way f (record_bytes way * n) → m₁ ≡ sets m (record_bytes way * n) (refilled control raw)
-        → m₂ ≡ sets m₁ (record_bytes way * n + record_bytes way) (fillers_of way (fillers_after (n + 1))) → length (mended_file way f) ≤ length held
+    pub behind_room : (m₁ : List ℕ) → m₁ ≡ sets m (record_bytes way * n) control → record_bytes way * n + record_bytes way + record_bytes way * fillers_after (n + 1) ≤ length m₁
+    behind_room m₁ e = omega (arith, end_room, ap length e, length-sets m (record_bytes way * n) control)
+
+    pub put_done : (m₁ m₂ : List ℕ) → m₁ ≡ sets m (record_bytes way * n) control → m₂ ≡ sets m₁ (record_bytes way * n + record_bytes way) behind
         → m₂ ≡ mended_file way f ++ drop (length (mended_file way f)) held
-    done_by control raw m₁ m₂ e q g d fits =
+    put_done m₁ m₂ e g =
         let at = record_bytes way * n in
-        let r = raw_at way f at in
-        let c = refilled (file_control_from s) r in
-        let fs = fillers_of way (fillers_after (n + 1)) in
-        let long : length c ≡ record_bytes way = refilled_long way (file_control_from s) r (file_long s) (raw_long way f at nine_within) in
-        d
-        ∙ ap (λ x. sets x (at + record_bytes way) fs) (g ∙ ap₂ (λ x y. sets m at (refilled x y)) e q)
-        ∙ ap (λ k. sets (sets m at c) (at + k) fs) (sym long)
-        ∙ sym (sets_append m at c fs)
-        ∙ ap (sets m at) (sym (joined_cons c (replicate (fillers_after (n + 1)) (closed_by way filler_record))))
-        ∙ ap (λ k. sets m (record_bytes way * k) (joined (refilled (file_control_from s) (raw_at way f (record_bytes way * k)) ∷ replicate (fillers_after (k + 1)) (closed_by way filler_record)))) (sym counted_before)
-        ∙ b.makes
-        ∙ sets-eq (mended_file way f) held 0 (omega (arith, fits))
+        g
+        ∙ ap (λ x. sets x (at + record_bytes way) behind) e
+        ∙ ap (λ k. sets (sets m at control) (at + k) behind) (sym control_long)
+        ∙ sym (sets_append m at control behind)
+        ∙ here_left.stands
+        ∙ sets-eq (mended_file way f) held 0 (omega (arith, room))
         ∙ rw zero-add
-
-    -- as the code has it: `wide` is the width, and k the number of fillers
-    pub fillers_fit : (control m₁ : List ℕ) (wide k : ℕ) → wide ≡ record_bytes way → k ≡ fillers_after (n + 1)
-        → m₁ ≡ sets m (wide * n) (refilled control (take (wide * n + wide - wide * n) (drop (wide * n) f))) → wide * n + wide + record_bytes way * k ≤ length m₁
-    fillers_fit control m₁ wide k q z e =
-        subst (λ x. wide * n + wide + record_bytes way * k ≤ x)
-        (sym (ap length e ∙ length-sets m (wide * n) (refilled control (take (wide * n + wide - wide * n) (drop (wide * n) f)))))
-        (subst (λ w. w * n + w + record_bytes way * k ≤ length m) (sym q) (subst (λ j. record_bytes way * n + record_bytes way + record_bytes way * j ≤ length m) (sym z) end_room))
-
-    pub put_done : (control m₁ m₂ : List ℕ) (wide k : ℕ) → wide ≡ record_bytes way → k ≡ fillers_after (n + 1) → control ≡ file_control_from s
-        → m₁ ≡ sets m (wide * n) (refilled control (take (wide * n + wide - wide * n) (drop (wide * n) f))) → m₂ ≡ sets m₁ (wide * n + wide) (fillers_of way k)
-        → length (mended_file way f) ≤ length held → m₂ ≡ mended_file way f ++ drop (length (mended_file way f)) held
-    put_done control m₁ m₂ wide k q z e g d fits =
-        done_by control (raw_at way f (record_bytes way * n)) m₁ m₂ e refl (g ∙ ap (λ w. sets m (w * n) (refilled control (take (w * n + w - w * n) (drop (w * n) f)))) q)
-        (d ∙ ap₂ (λ w j. sets m₁ (w * n + w) (fillers_of way j)) q z) fits

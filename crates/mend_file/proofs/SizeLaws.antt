@@ -2,10 +2,10 @@
 -- Assumes nothing but what a statement says.
 use mathlib.Core.Path.{◌≡◌, refl, sym, ap, ◌∙◌}
 use mathlib.Core.List.{List, [], ◌∷◌}
-use Prim.Native.Nat.{ℕ, suc, ◌+◌, ◌*◌, ◌/◌, ◌≤◌, ◌<◌}
+use Prim.Native.Nat.{ℕ, suc, ◌+◌, ◌*◌, ◌≤◌, ◌<◌}
 use native.Mathlib.Omega.{arith}
 use lib.ListN.{length, take}
-use Rattle.text.proofs.RowLaws.{length_joined, length_rows}
+use Rattle.text.proofs.RowLaws.{length_joined}
 use Rattle.layout.specs.declared.Way.{Way}
 use Rattle.layout.specs.Ways.{record_bytes}
 use Rattle.check_across.specs.declared.Sums.{Sums}
@@ -18,6 +18,7 @@ use Rattle.mend.proofs.Again.{by_test, mended_long, raw_long}
 use Rattle.mend.proofs.Numbers.{nine_here, nine_later}
 use Rattle.mend.proofs.Running.{nine_length, other_length}
 use Rattle.mend_file.specs.WorkJudging.{NineAt}
+use Rattle.mend_file.proofs.WalkLaws.{nine_inside}
 
 -- n records in all, of which a are passed and b stand before the 9
 abbrev whole_block : ℕ → ℕ
@@ -40,10 +41,6 @@ pub size_few : (way : Way) (n k : ℕ) → n < 1000000 → k < 10 → record_byt
 size_few Way.Plain n k a b = omega arith
 size_few Way.Lined n k a b = omega arith
 
-rows_above : (way : Way) (n k : ℕ) → record_bytes way * (n + 1) ≤ k → n < k / record_bytes way
-rows_above Way.Plain n k h = omega arith
-rows_above Way.Lined n k h = omega arith
-
 module _ (way : Way) where
   mended_count : (last : ℕ) (s : Sums) (h : List ℕ) (rs : List (List ℕ)) → before_nine last rs < length rs
       → s.records + length (mended_from way last s h rs) ≡ whole_block (s.records + before_nine last rs)
@@ -64,8 +61,7 @@ module _ (way : Way) where
   pub mended_records_lem : (f : List ℕ) (n : ℕ) → NineAt way f n → length (mended_records way (raw_records way f)) ≡ n + 1 + fillers_after (n + 1)
   mended_records_lem f n a =
       let raw = raw_records way f in
-      let counted : length raw ≡ length f / record_bytes way = length_rows (record_bytes way) (length f / record_bytes way) f in
-      let in_file : nine_at raw < length raw = omega (arith, counted, a.before, rows_above way n (length f) a.inside) in
+      let in_file : nine_at raw < length raw = omega (arith, a.before, nine_inside way f n a) in
       from_none (length (mended_records way raw)) (nine_at raw) (mended_count 0 start.sums start.header raw in_file) ∙ ap whole_block (sym a.before)
 
   pub mended_size : (f : List ℕ) (n : ℕ) → NineAt way f n → length (mended_file way f) ≡ record_bytes way * (n + 1 + fillers_after (n + 1))

@@ -1,5 +1,6 @@
 -- One record of the mended file checked: it has other columns, and its line end is its own.
 -- Assumes nothing but what a statement says.
+use Rattle.std.specs.Prelude.{Ok, Err}
 use mathlib.Core.Path.{◌≡◌, refl, sym, ap, ap₂, ◌∙◌}
 use mathlib.Core.Bool.{Bool, true, false, ◌&&◌}
 use mathlib.Core.List.{List, ◌++◌, append-nil}
@@ -17,8 +18,8 @@ use Rattle.layout.specs.Ways.{end_of}
 use Rattle.check_across.specs.declared.Sums.{Sums}
 use Rattle.check_sums.specs.declared.State.{State}
 use Rattle.check_sums.specs.Sums.{tally}
-use Rattle.check_record.specs.declared.Verdict.{Verdict}
-use Rattle.check_record.specs.declared.Stepped.{Stepped}
+use Rattle.check_record.specs.declared.Wrong.{Wrong}
+use Rattle.check_record.specs.Verdict.{Verdict, Stepped, wrong_of}
 use Rattle.check_record.specs.Record.{Piece, fields_from, line_of, stepped, bare, closing, record_of, piece_of}
 use Rattle.table_form.specs.Forms.{batch_control_from}
 use Rattle.mend.specs.Mend.{type_of, refilled, mended_record}
@@ -34,38 +35,35 @@ refilled_piece : (way : Way) (c r : List ℕ) → length c ≡ 94 → piece_of w
 refilled_piece way c r l = ap₂ piece (take_at c (drop 94 r) 94 l) (ap (λ x. same_bytes x (end_of way)) (drop_at c (drop 94 r) 94 l))
 
 -- a wrong field comes before the line end
-stop_by : (b : Bool) (v : Verdict) (next st : State) (fault : Fault) (k : ℕ) → (stepped v next st).verdict ≡ Verdict.Failed fault k
-    → stepped (closing b v) next st ≡ told (Verdict.Failed fault k) st
-stop_by b Verdict.Passed next st fault k e = failed_not fault k (sym e)
-stop_by true (Verdict.Failed g j) next st fault k e = ap (λ v. told v st) e
-stop_by false (Verdict.Failed g j) next st fault k e = ap (λ v. told v st) e
+stop_by : (b : Bool) (v : Verdict) (next st : State) (wrong : Wrong) → (stepped v next st).verdict ≡ Err wrong → stepped (closing b v) next st ≡ told (Err wrong) st
+stop_by b (Ok _) next st wrong e = failed_not wrong.fault wrong.field (sym e)
+stop_by true (Err _) next st wrong e = ap (λ v. told v st) e
+stop_by false (Err _) next st wrong e = ap (λ v. told v st) e
 
-unclosed_by : (v : Verdict) (next st : State) → (stepped v next st).verdict ≡ Verdict.Passed → stepped (closing false v) next st ≡ told (Verdict.Failed Fault.LineEnd 0) st
-unclosed_by Verdict.Passed next st e = refl
-unclosed_by (Verdict.Failed g j) next st e = failed_not g j e
+unclosed_by : (v : Verdict) (next st : State) → (stepped v next st).verdict ≡ Ok tt → stepped (closing false v) next st ≡ told (Err (wrong_of Fault.LineEnd 0)) st
+unclosed_by (Ok _) next st e = refl
+unclosed_by (Err wrong) next st e = failed_not wrong.fault wrong.field e
 
 -- the columns c in place of those of r: `tried` is what they give by themselves
-module _ (way : Way) (st : State) (c r : List ℕ) (l : length c ≡ 94) (tried : Stepped) (e : tried ≡ record_of st (bare c)) where
+module _ (way : Way) (st : State) (c r : List ℕ) (l : length c ≡ 94) where
   abbrev fields : Verdict
   fields = fields_from (first_field (line_of st c)) (rows_of (line_of st c)) st.sums st.header c
 
   abbrev past : State
   past = tally st (line_of st c) c
 
-  verdict_of : tried.verdict ≡ (stepped fields past st).verdict
-  verdict_of = ap (λ (x : Stepped). x.verdict) e
-
   by_line_end : record_of st (piece_of way (refilled c r)) ≡ record_of st (piece c (piece_of way r).closed)
   by_line_end = ap (record_of st) (refilled_piece way c r l)
 
-  pub refilled_failed : (fault : Fault) (k : ℕ) → tried.verdict ≡ Verdict.Failed fault k → told (Verdict.Failed fault k) st ≡ record_of st (piece_of way (refilled c r))
-  refilled_failed fault k w = sym (by_line_end ∙ stop_by (piece_of way r).closed fields past st fault k (sym verdict_of ∙ w))
+  pub refilled_failed : (wrong : Wrong) → told (Err wrong) st ≡ record_of st (bare c) → told (Err wrong) st ≡ record_of st (piece_of way (refilled c r))
+  refilled_failed wrong e = sym (by_line_end ∙ stop_by (piece_of way r).closed fields past st wrong (sym (ap (λ (x : Stepped). x.verdict) e)))
 
-  pub refilled_unclosed : tried.verdict ≡ Verdict.Passed → (piece_of way r).closed ≡ false → told (Verdict.Failed Fault.LineEnd 0) st ≡ record_of st (piece_of way (refilled c r))
-  refilled_unclosed w b = sym (by_line_end ∙ ap (λ x. record_of st (piece c x)) b ∙ unclosed_by fields past st (sym verdict_of ∙ w))
+  module _ (next : State) (e : told (Ok tt) next ≡ record_of st (bare c)) where
+    pub refilled_unclosed : (piece_of way r).closed ≡ false → told (Err (wrong_of Fault.LineEnd 0)) st ≡ record_of st (piece_of way (refilled c r))
+    refilled_unclosed b = sym (by_line_end ∙ ap (λ x. record_of st (piece c x)) b ∙ unclosed_by fields past st (sym (ap (λ (x : Stepped). x.verdict) e)))
 
-  pub refilled_closed : (piece_of way r).closed ≡ true → tried ≡ record_of st (piece_of way (refilled c r))
-  refilled_closed b = e ∙ sym (by_line_end ∙ ap (λ x. record_of st (piece c x)) b)
+    pub refilled_closed : (piece_of way r).closed ≡ true → told (Ok tt) next ≡ record_of st (piece_of way (refilled c r))
+    refilled_closed b = e ∙ sym (by_line_end ∙ ap (λ x. record_of st (piece c x)) b)
 
 -- a mended record is its mended columns, with the line end that it had
 mended_by : (t : Bool) (s : Sums) (h r : List ℕ)

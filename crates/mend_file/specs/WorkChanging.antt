@@ -1,15 +1,13 @@
 -- How much the changes take: the rows of one field, of one record and of a file's records 8, and what a list of rows comes to.
-use Rattle.std.specs.Prelude.{ℕ, ◌+◌, ◌*◌, ◌≤◌, ◌≡◌, true, List, [], ◌∷◌, eqb, length, take, drop}
+use Rattle.std.specs.Prelude.{ℕ, ◌+◌, ◌*◌, ◌≤◌, ◌≡◌, true, List, [], ◌∷◌, eqb, length, get_or, take, drop}
 use Rattle.text.specs.Decimal.{pick}
 use Rattle.text.specs.Rows.{columns, joined}
 use Rattle.text.specs.Same.{same_bytes}
 use Rattle.layout.specs.declared.Row.{Row}
 use Rattle.layout.specs.declared.Way.{Way}
 use Rattle.layout.specs.Fields.{batch_control, file_control}
-use Rattle.layout.specs.Ways.{record_bytes}
 use Rattle.check_across.specs.WorkSmall.{Small}
 use Rattle.check_record.specs.Record.{length_fits, raw_records}
-use Rattle.check_record.proofs.Ways.{raw_at}
 use Rattle.mend.specs.Mend.{type_of, mended_end, mended_records, mended_file, change_row, field_changes, changes_from, filler_changes, changes_of, nine_at}
 use Rattle.mend_file.specs.WorkJudging.{NineAt}
 use Rattle.mend_file.specs.declared.Changes.{Changes}
@@ -55,7 +53,7 @@ pub record Summed (way : Way) (f : List ℕ) (w : Walk) : Type 0 where
   pub listed : w.listed ≡ listed_of (batch_rows way f)
   pub ends :
       drop (nine_at (raw_records way f)) (mended_records way (raw_records way f))
-      ≡ mended_end way w.sums (raw_at way f (record_bytes way * nine_at (raw_records way f)))
+      ≡ mended_end way w.sums (get_or (raw_records way f) (nine_at (raw_records way f)) [])
   pub small : Small w.sums
   pub count : w.sums.records ≡ nine_at (raw_records way f)
   pub few : w.listed.rows ≤ 13 * nine_at (raw_records way f)

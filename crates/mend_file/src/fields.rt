@@ -1,7 +1,7 @@
 // The fields of two records compared: a row for each that differs, measured first and then put.
-ghost use Rattle.std.specs.Prelude.{◌+◌, ◌≤◌, ◌<◌, ◌≡◌, true, length};
+ghost use Rattle.std.specs.Prelude.{◌≤◌, ◌+◌, ◌≡◌, true, length};
 ghost use Rattle.text.specs.Decimal.{render};
-ghost use Rattle.text.specs.Rows.{joined};
+ghost use Rattle.text.specs.Rows.{columns, joined};
 ghost use Rattle.layout.specs.Fields.{rows_of};
 ghost use Rattle.layout.specs.WorkFits.{row_fits};
 ghost use Rattle.table_read.specs.WorkPuts.{Puts, Room};
@@ -10,25 +10,13 @@ ghost use Rattle.mend_file.specs.WorkChanging.{listed_of, field_rows};
 
 use crate::Listed;
 use layout::{Line, Row};
-use table_read::putting;
 
-// Where a field begins and ends in its record, from 0, the end not included.
-#[derive(Clone, Copy)]
-struct Span {
-    from: usize,
-    end: usize,
-}
-
-fn span_of(row: Row) -> Span
-    requires { row_fits row ≡ true }
-    ensures { (result.from + 1 ≡ row.first) × (result.end ≡ row.last) × (result.from < result.end) × (result.end ≤ 94) }
+// What a record says in this field.
+fn field_text(row: Row, rec: &[u8]) -> &[u8]
+    requires { (row_fits row ≡ true) × (94 ≤ length rec.now) }
+    ensures { (result.now ≡ columns row.first row.last rec.now) × (length result.now ≤ 94) }
 {
-    let first = row.first;
-    let last = row.last;
-    Span {
-        from: first as usize - 1,
-        end: last as usize,
-    }
+    &rec[usize::from(row.first) - 1..usize::from(row.last)]
 }
 
 // How much the row of one field takes: nothing where the field is the same.
@@ -36,15 +24,14 @@ fn field_listed(row: Row, old: &[u8], new: &[u8]) -> Listed
     requires { (row_fits row ≡ true) × (94 ≤ length old.now) × (94 ≤ length new.now) }
     ensures { (result ≡ listed_of (field_rows 0 1 row old.now new.now)) × (result.rows ≤ 1) × (result.bytes ≤ 197) }
 {
-    let at = span_of(row);
-    let from = at.from;
-    let end = at.end;
-    if text::same(&old[from..end], &new[from..end]) {
+    let was = field_text(row, old);
+    let is = field_text(row, new);
+    if was == is {
         return Listed { rows: 0, bytes: 0 };
     }
     Listed {
         rows: 1,
-        bytes: 9 + (end - from) + (end - from),
+        bytes: 9 + was.len() + is.len(),
     }
 }
 
@@ -53,17 +40,13 @@ pub fn listed(line: Line, old: &[u8], new: &[u8]) -> Listed
     requires { (94 ≤ length old.now) × (94 ≤ length new.now) }
     ensures { (result ≡ listed_of (field_changes 0 1 (rows_of line) old.now new.now)) × (result.rows ≤ 13) × (result.bytes ≤ 2561) }
 {
-    let count = layout::rows_in(line);
-    let mut rows = 0;
-    let mut bytes = 0;
-    let mut k = 0;
-    while k < count {
-        let one = field_listed(layout::row_of(line, k), old, new);
-        rows += one.rows;
-        bytes += one.bytes;
-        k += 1;
+    let mut all = Listed { rows: 0, bytes: 0 };
+    for row in layout::rows(line) {
+        let one = field_listed(*row, old, new);
+        all.rows += one.rows;
+        all.bytes += one.bytes;
     }
-    Listed { rows, bytes }
+    all
 }
 
 // Puts a number in so many digits.
@@ -74,6 +57,15 @@ pub fn put_digits(wide: usize, n: u64, list: &mut [u8], to: usize) -> usize
     let end = to + wide;
     text::put_number(&mut list[to..end], n);
     end
+}
+
+// Puts a field's text.
+fn put_text(bytes: &[u8], list: &mut [u8], to: usize) -> usize
+    requires { Room bytes.now list.old to }
+    ensures { Puts bytes.now list.old list.new to result }
+{
+    text::copy_into(list, to, bytes);
+    to + bytes.len()
 }
 
 // Puts the row of one field, or nothing where the field is the same.
@@ -89,16 +81,15 @@ fn put_field(
     requires { (row_fits row ≡ true) × (94 ≤ length old.now) × (94 ≤ length new.now) × Room (joined (field_rows number k row old.now new.now)) list.old to }
     ensures { Puts (joined (field_rows number k row old.now new.now)) list.old list.new to result }
 {
-    let at = span_of(row);
-    let from = at.from;
-    let end = at.end;
-    if text::same(&old[from..end], &new[from..end]) {
+    let was = field_text(row, old);
+    let is = field_text(row, new);
+    if was == is {
         return to;
     }
     let field = put_digits(7, number, list, to);
-    let was = put_digits(2, k, list, field);
-    let is = putting::put_part(old, from, end, list, was);
-    putting::put_part(new, from, end, list, is)
+    let texts = put_digits(2, k, list, field);
+    let second = put_text(was, list, texts);
+    put_text(is, list, second)
 }
 
 // Puts the rows of two records of this type, which have this number.
@@ -106,20 +97,9 @@ pub fn put(line: Line, number: u64, old: &[u8], new: &[u8], list: &mut [u8], sta
     requires { (94 ≤ length old.now) × (94 ≤ length new.now) × Room (joined (field_changes number 1 (rows_of line) old.now new.now)) list.old start }
     ensures { Puts (joined (field_changes number 1 (rows_of line) old.now new.now)) list.old list.new start result }
 {
-    let fields = layout::rows_in(line);
     let mut to = start;
-    let mut k = 0;
-    while k < fields {
-        to = put_field(
-            layout::row_of(line, k),
-            number,
-            k as u64 + 1,
-            old,
-            new,
-            list,
-            to,
-        );
-        k += 1;
+    for (k, row) in layout::rows(line).iter().enumerate() {
+        to = put_field(*row, number, k as u64 + 1, old, new, list, to);
     }
     to
 }

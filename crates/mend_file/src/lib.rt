@@ -6,22 +6,24 @@ pub mod judging;
 pub mod refilling;
 pub mod renewing;
 
-ghost use Rattle.std.specs.Prelude.{◌+◌, ◌*◌, ◌≤◌, ◌<◌, ◌≡◌, true, [], ◌∷◌, leb, length, take};
+ghost use Rattle.std.specs.Prelude.{◌+◌, ◌*◌, ◌≤◌, ◌<◌, ◌≡◌, true, [], ◌∷◌, leb, length, get_or, take, drop, IfOk};
 ghost use Rattle.text.specs.Decimal.{pick, render};
 ghost use Rattle.text.specs.Rows.{joined, section};
 ghost use Rattle.layout.specs.Fields.{batch_control};
 ghost use Rattle.layout.specs.Ways.{record_bytes};
 ghost use Rattle.check_record.specs.Record.{length_fits, raw_records};
 ghost use Rattle.table_read.specs.WorkPuts.{Puts, Room};
-ghost use Rattle.layout.specs.declared.Answer.{Answer};
+ghost use Rattle.layout.specs.Answers.{answer_of};
+ghost use Rattle.mend.specs.Mended.{mended_as};
 ghost use Rattle.mend.specs.Mend.{mended_record, mended_file, changes_from, filler_changes, changes_of, mend_answer, mend_of};
 ghost use Rattle.mend_file.specs.WorkJudging.{NineAt};
 ghost use Rattle.mend_file.specs.WorkChanging.{listed_of, control_rows, Summed, Counted, Ready};
 
+use crate::refilling::Passed;
 use check_across::Sums;
 use check_record::outcome;
-use layout::{Answer, Fault, Line, Way};
-use mend::Mended;
+use layout::{Answer, Fault, Line, Refusal, Way};
+use mend::Lengths;
 use table_form::forms;
 
 // Rows one behind the other: how many, and how many bytes they take.
@@ -46,26 +48,42 @@ pub struct Changes {
     pub bytes: usize,
 }
 
-// What is known before a byte is put: the answer, and for a grant how many records stand before the 9, how long the mended file is, and what
-// the changes come to.
+// What is known before a byte is put: how many records stand before the 9, how long the mended file is, and what the changes come to.
 #[derive(Clone, Copy)]
 struct Plan {
-    answer: Answer,
     before: usize,
     size: usize,
     counts: Changes,
 }
 
+// The record of a file that so many stand before.
+fn record(way: Way, file: &[u8], before: usize) -> &[u8]
+    requires { record_bytes way * (before + 1) ≤ length file.now }
+    ensures { (result.now ≡ get_or (raw_records way file.now) before []) × (length result.now ≡ record_bytes way) }
+{
+    let wide = layout::record_bytes(way);
+    let at = wide * before;
+    &file[at..at + wide]
+}
+
+// How many records a file has behind the 9.
+fn fillers_in(way: Way, file: &[u8], before: usize) -> usize
+    requires { NineAt way file.now before }
+    ensures { result ≡ length (drop (before + 1) (raw_records way file.now)) }
+{
+    file.len() / layout::record_bytes(way) - before - 1
+}
+
 // How much the rows of a record 8 take, with what is told before it; any other record has none.
 #[tactic(auto, using(crate::proofs::ListLaws::control_none, crate::proofs::FieldLaws::none_listed))]
-fn control_listed(sums: Sums, header: &[u8], raw: &[u8]) -> Listed
-    requires { (length header.now ≡ 94) × (94 ≤ length raw.now) }
-    ensures { (result ≡ listed_of (control_rows 0 raw.now (mended_record sums header.now raw.now))) × (result.rows ≤ 13) × (result.bytes ≤ 2561) }
+fn control_listed(passed: &Passed, raw: &[u8]) -> Listed
+    requires { 94 ≤ length raw.now }
+    ensures { (result ≡ listed_of (control_rows 0 raw.now (mended_record passed.now.sums passed.now.header raw.now))) × (result.rows ≤ 13) × (result.bytes ≤ 2561) }
 {
     if raw[0] != b'8' {
         return Listed { rows: 0, bytes: 0 };
     }
-    let columns = refilling::mended(sums, header, &raw[0..94]);
+    let columns = refilling::mended(passed.sums, &passed.header, text::chunk(raw, 0));
     fields::listed(Line::BatchControl, raw, &columns)
 }
 
@@ -74,37 +92,25 @@ fn walked(way: Way, file: &[u8], before: usize) -> Walk
     requires { (length_fits way (length file.now) ≡ true) × NineAt way file.now before }
     ensures { Summed way file.now result }
 {
-    let st = check_sums::start();
-    let mut sums = st.sums;
-    let mut header = st.header;
-    let mut rows = 0;
-    let mut bytes = 0;
-    let mut at = 0;
-    let mut left = before;
-    while 0 < left {
-        let wide = layout::record_bytes(way);
-        let raw = &file[at..at + wide];
-        let one = control_listed(sums, &header, raw);
-        rows += one.rows;
-        bytes += one.bytes;
-        let columns = &raw[0..94];
-        sums = refilling::sums_past(sums, columns);
-        header = refilling::header_past(header, columns);
-        at += wide;
-        left -= 1;
+    let mut passed = Passed::start();
+    let mut listed = Listed { rows: 0, bytes: 0 };
+    for raw in file.chunks_exact(layout::record_bytes(way)).take(before) {
+        let one = control_listed(&passed, raw);
+        listed.rows += one.rows;
+        listed.bytes += one.bytes;
+        passed.pass(text::chunk(raw, 0));
     }
-    let listed = Listed { rows, bytes };
-    Walk { listed, sums }
+    Walk {
+        listed,
+        sums: passed.sums,
+    }
 }
 
 // How many bytes the row of the fillers takes.
 fn fillers_listed(old: usize, new: usize) -> usize
     ensures { (result ≡ length (joined (filler_changes old new))) × (result ≤ 2) }
 {
-    if old == new {
-        return 0;
-    }
-    2
+    if old == new { 0 } else { 2 }
 }
 
 // What the changes of a lent file come to.
@@ -112,21 +118,14 @@ pub fn measured(way: Way, file: &[u8], before: usize) -> Changes
     requires { (length_fits way (length file.now) ≡ true) × NineAt way file.now before }
     ensures { Counted way file.now result }
 {
-    let walk = walked(way, file, before);
-    let batch = walk.listed;
-    let sums = walk.sums;
-    let wide = layout::record_bytes(way);
-    let at = wide * before;
+    let Walk { listed, sums } = walked(way, file, before);
     let control = forms::file_control(sums);
-    let last = fields::listed(Line::FileControl, &file[at..at + wide], &control);
-    let fillers = fillers_listed(
-        file.len() / wide - before - 1,
-        renewing::fillers(before + 1),
-    );
+    let last = fields::listed(Line::FileControl, record(way, file, before), &control);
+    let fillers = fillers_listed(fillers_in(way, file, before), renewing::fillers(before + 1));
     Changes {
-        batch: batch.rows,
+        batch: listed.rows,
         file: last.rows,
-        bytes: 7 + batch.bytes + (7 + last.bytes + (7 + fillers)),
+        bytes: 7 + listed.bytes + (7 + last.bytes + (7 + fillers)),
     }
 }
 
@@ -150,24 +149,14 @@ fn put_controls(
     list: &mut [u8],
     start: usize,
 ) -> usize
-    requires { (before < 1000000) × (record_bytes way * before ≤ length file.now) × (record_bytes way * before ≤ length mended.now) × Room (joined (changes_from 56 batch_control 1 (take before (raw_records way file.now)) (raw_records way mended.now))) list.old start }
+    requires { (before ≤ length (raw_records way file.now)) × (before ≤ length (raw_records way mended.now)) × Room (joined (changes_from 56 batch_control 1 (take before (raw_records way file.now)) (raw_records way mended.now))) list.old start }
     ensures { Puts (joined (changes_from 56 batch_control 1 (take before (raw_records way file.now)) (raw_records way mended.now))) list.old list.new start result }
 {
+    let wide = layout::record_bytes(way);
+    let olds = file.chunks_exact(wide).take(before);
     let mut to = start;
-    let mut at = 0;
-    let mut i = 0;
-    while i < before {
-        let wide = layout::record_bytes(way);
-        let number = i as u64 + 1;
-        to = put_control(
-            number,
-            &file[at..at + wide],
-            &mended[at..at + wide],
-            list,
-            to,
-        );
-        at += wide;
-        i += 1;
+    for (i, (old, new)) in olds.zip(mended.chunks_exact(wide)).enumerate() {
+        to = put_control(i as u64 + 1, old, new, list, to);
     }
     to
 }
@@ -209,99 +198,60 @@ pub fn put(
     requires { (length_fits way (length file.now) ≡ true) × NineAt way file.now before × (mended.now ≡ mended_file way file.now) × Counted way file.now counts × Room (changes_of way file.now) list.old 0 }
     ensures { Puts (changes_of way file.now) list.old list.new 0 result }
 {
-    let wide = layout::record_bytes(way);
-    let at = wide * before;
     let rows = fields::put_digits(7, counts.batch as u64, list, 0);
     let count = put_controls(way, file, before, mended, list, rows);
     let control = fields::put_digits(7, counts.file as u64, list, count);
-    let number = before as u64 + 1;
     let fillers = fields::put(
         Line::FileControl,
-        number,
-        &file[at..at + wide],
-        &mended[at..at + wide],
+        before as u64 + 1,
+        record(way, file, before),
+        record(way, mended, before),
         list,
         control,
     );
     put_fillers(
-        file.len() / wide - before - 1,
+        fillers_in(way, file, before),
         renewing::fillers(before + 1),
         list,
         fillers,
     )
 }
 
-// Nothing is put.
-fn refused(answer: Answer) -> Plan
-    ensures { result.answer ≡ answer }
-{
-    let counts = Changes {
-        batch: 0,
-        file: 0,
-        bytes: 0,
-    };
-    Plan {
-        answer,
-        before: 0,
-        size: 0,
-        counts,
-    }
-}
-
 // The answer of mending into so much room, and what a grant puts.
-fn planned(way: Way, file: &[u8], room: usize, list: usize) -> Plan
-    ensures { (result.answer ≡ mend_answer way file.now room list) × (result.answer ≡ Answer.Granted → Ready way file.now result) }
+fn planned(way: Way, file: &[u8], room: usize, list: usize) -> Answer<Plan>
+    ensures answer { answer_of result ≡ mend_answer way file.now room list }
+    ensures ready { IfOk result (Ready way file.now) }
 {
     if !outcome::whole_records(way, file.len()) {
-        return refused(layout::refused(Fault::Length, 0, 0));
+        return Err(Refusal::whole(Fault::Length));
     }
-    let judgement = judging::judged(way, file);
-    let told = judgement.answer;
-    if let Answer::Refused(refusal) = told {
-        return refused(Answer::Refused(refusal));
-    }
-    let before = judgement.before;
-    let behind = judging::behind(way, file, before);
-    if let Answer::Refused(refusal) = behind {
-        return refused(Answer::Refused(refusal));
-    }
+    let before = judging::judged(way, file)?;
+    judging::behind(way, file, before)?;
     let size = renewing::size(way, before);
     let counts = measured(way, file, before);
-    if room < size {
-        return refused(layout::refused(Fault::Room, 0, 0));
+    if room < size || list < counts.bytes {
+        return Err(Refusal::whole(Fault::Room));
     }
-    if list < counts.bytes {
-        return refused(layout::refused(Fault::Room, 0, 0));
-    }
-    Plan {
-        answer: Answer::Granted,
+    Ok(Plan {
         before,
         size,
         counts,
-    }
+    })
 }
 
 // Mends a lent file, which is only read: the mended file goes into one buffer, the changes into another. A refusal touches neither.
-pub fn mend(way: Way, file: &[u8], mended: &mut [u8], changes: &mut [u8]) -> Mended
-    ensures { (result ≡ (mend_of way file.now mended.old changes.old).gives) × (mended.new ≡ (mend_of way file.now mended.old changes.old).leaves) × (changes.new ≡ (mend_of way file.now mended.old changes.old).changes) }
+pub fn mend(way: Way, file: &[u8], mended: &mut [u8], changes: &mut [u8]) -> Answer<Lengths>
+    ensures { (mended_as result ≡ (mend_of way file.now mended.old changes.old).gives) × (mended.new ≡ (mend_of way file.now mended.old changes.old).leaves) × (changes.new ≡ (mend_of way file.now mended.old changes.old).changes) }
 {
-    let plan = planned(way, file, mended.len(), changes.len());
-    let answer = plan.answer;
-    if let Answer::Refused(refusal) = answer {
-        return Mended {
-            answer: Answer::Refused(refusal),
-            length: 0,
-            listed: 0,
-        };
-    }
-    let before = plan.before;
-    let size = plan.size;
-    let counts = plan.counts;
+    let Plan {
+        before,
+        size,
+        counts,
+    } = planned(way, file, mended.len(), changes.len())?;
     renewing::put_mended(way, file, before, mended);
-    put(way, file, before, &mended[0..size], counts, changes);
-    Mended {
-        answer: Answer::Granted,
+    put(way, file, before, &mended[..size], counts, changes);
+    Ok(Lengths {
         length: size as u64,
         listed: counts.bytes as u64,
-    }
+    })
 }

@@ -9,7 +9,8 @@ ghost use Rattle.mend.specs.Mend.{refilled, mended_record, mended_file};
 ghost use Rattle.mend_file.specs.WorkJudging.{NineAt};
 ghost use Rattle.mend_file.specs.WorkRenewing.{Bodied};
 
-use crate::refilling;
+use crate::refilling::Passed;
+use crate::{record, refilling};
 use check_across::Sums;
 use layout::Way;
 use table_form::forms;
@@ -31,21 +32,20 @@ pub fn size(way: Way, before: usize) -> usize
 }
 
 // Puts a record with these columns in place of its own; what stands behind them stays.
-fn put_refilled(columns: &[u8], raw: &[u8], mended: &mut [u8], at: usize)
-    requires { (length columns.now ≡ 94) × (94 ≤ length raw.now) × (at + length raw.now ≤ length mended.old) }
+fn put_refilled(columns: &[u8; 94], raw: &[u8], mended: &mut [u8], at: usize)
+    requires { (94 ≤ length raw.now) × (at + length raw.now ≤ length mended.old) }
     ensures { mended.new ≡ sets mended.old at (refilled columns.now raw.now) }
 {
-    let end = raw.len();
     text::copy_into(mended, at, columns);
-    text::copy_into(mended, at + 94, &raw[94..end]);
+    text::copy_into(mended, at + 94, &raw[94..]);
 }
 
 // Puts a mended record.
-fn put_record(sums: Sums, header: &[u8], raw: &[u8], mended: &mut [u8], at: usize)
-    requires { (length header.now ≡ 94) × (94 ≤ length raw.now) × (at + length raw.now ≤ length mended.old) }
-    ensures { mended.new ≡ sets mended.old at (mended_record sums header.now raw.now) }
+fn put_record(passed: &Passed, raw: &[u8], mended: &mut [u8], at: usize)
+    requires { (94 ≤ length raw.now) × (at + length raw.now ≤ length mended.old) }
+    ensures { mended.new ≡ sets mended.old at (mended_record passed.now.sums passed.now.header raw.now) }
 {
-    let columns = refilling::mended(sums, header, &raw[0..94]);
+    let columns = refilling::mended(passed.sums, &passed.header, text::chunk(raw, 0));
     put_refilled(&columns, raw, mended, at);
 }
 
@@ -56,12 +56,10 @@ fn put_fillers(way: Way, mended: &mut [u8], from: usize, count: usize)
 {
     let filler = forms::filler();
     let mut to = from;
-    let mut left = count;
-    while 0 < left {
+    for _ in 0..count {
         text::copy_into(mended, to, &filler);
         passing::end_line(way, mended, to + 94);
         to += layout::record_bytes(way);
-        left -= 1;
     }
 }
 
@@ -70,22 +68,13 @@ fn put_body(way: Way, file: &[u8], before: usize, mended: &mut [u8]) -> Sums
     requires { (length_fits way (length file.now) ≡ true) × NineAt way file.now before × (length (mended_file way file.now) ≤ length mended.old) }
     ensures { Bodied way file.now mended.old result mended.new }
 {
-    let st = check_sums::start();
-    let mut sums = st.sums;
-    let mut header = st.header;
-    let mut at = 0;
-    let mut left = before;
-    while 0 < left {
-        let wide = layout::record_bytes(way);
-        let raw = &file[at..at + wide];
-        put_record(sums, &header, raw, mended, at);
-        let columns = &raw[0..94];
-        sums = refilling::sums_past(sums, columns);
-        header = refilling::header_past(header, columns);
-        at += wide;
-        left -= 1;
+    let wide = layout::record_bytes(way);
+    let mut passed = Passed::start();
+    for (i, raw) in file.chunks_exact(wide).take(before).enumerate() {
+        put_record(&passed, raw, mended, wide * i);
+        passed.pass(text::chunk(raw, 0));
     }
-    sums
+    passed.sums
 }
 
 // Puts the mended file of a lent file in which so many records stand before the 9.
@@ -97,6 +86,6 @@ pub fn put_mended(way: Way, file: &[u8], before: usize, mended: &mut [u8])
     let wide = layout::record_bytes(way);
     let at = wide * before;
     let control = forms::file_control(sums);
-    put_refilled(&control, &file[at..at + wide], mended, at);
+    put_refilled(&control, record(way, file, before), mended, at);
     put_fillers(way, mended, at + wide, fillers(before + 1));
 }

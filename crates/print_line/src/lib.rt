@@ -4,7 +4,7 @@
 
 ghost use Rattle.std.specs.Prelude.{◌≤◌, length, IfOk};
 
-use layout::{Answer, Checked};
+use layout::{Acceptance, Answer};
 use std::io;
 use std::io::Read;
 
@@ -27,21 +27,21 @@ pub fn print_refusal(rt: &impl Print, number: u64, record: u64, field: u64) -> i
     println!(rt; "NO {number} {record} {field}")
 }
 
-fn print_acceptance(rt: &impl Print, c: Checked) -> io::Result<()> {
+fn print_acceptance(rt: &impl Print, accepted: Acceptance) -> io::Result<()> {
     println!(rt;
         "OK {} {} {} {} {}",
-        c.batches, c.entries, c.addenda, c.debit, c.credit
+        accepted.batches, accepted.entries, accepted.addenda, accepted.debit, accepted.credit
     )
 }
 
-pub fn print_checked(rt: &impl Print, c: Checked) -> io::Result<()> {
-    let answer = c.answer;
-    match answer {
-        Answer::Granted => print_acceptance(rt, c),
-        Answer::Refused(r) => {
-            let fault = r.fault;
-            let record = r.record;
-            print_refusal(rt, layout::number_of(fault), record.0, r.field)
-        }
+pub fn print_checked(rt: &impl Print, checked: Answer<Acceptance>) -> io::Result<()> {
+    match checked {
+        Ok(accepted) => print_acceptance(rt, accepted),
+        Err(refusal) => print_refusal(
+            rt,
+            layout::number_of(refusal.fault),
+            refusal.record.0,
+            refusal.field,
+        ),
     }
 }

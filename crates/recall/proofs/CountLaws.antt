@@ -1,22 +1,22 @@
 -- The count along the old file's records is the number of batches of the view without the entries that are flagged.
 -- Assumes that the flags are those of the list's numbers, and an accepted file for the walk along it.
-use Prim.Native.Nat.{ℕ, suc, ◌+◌, ◌*◌, ◌/◌, ◌≤◌, ◌<◌}
-use native.Mathlib.Nat.{add-zero, zero-add, mul-zero}
-use native.Mathlib.Numerals.{add-one}
+use Prim.Native.Nat.{ℕ, zero, suc, ◌+◌, ◌≤◌, ◌<◌}
+use native.Mathlib.Nat.{add-zero, zero-add}
 use native.Mathlib.Omega.{arith}
-use mathlib.Core.Path.{◌≡◌, refl, sym, ap, ◌∙◌}
+use mathlib.Core.Path.{◌≡◌, refl, sym, ap, ap₂, ◌∙◌}
 use mathlib.Core.Bool.{Bool, true, false}
 use mathlib.Core.List.{List, [], ◌∷◌, ◌++◌, map, append_assoc}
 use lib.Dec.{eqb, lit<}
-use lib.ListN.{length, drop, get_or, get_or-append, drop_of_length-le}
-use lib.Seq.{drop-cons}
+use lib.ListN.{length, take, get_or}
+use lib.Seq.{take_at, get_or-take}
 use Rattle.text.specs.Decimal.{pick}
 use Rattle.layout.specs.declared.Way.{Way}
 use Rattle.layout.specs.Ways.{record_bytes}
 use Rattle.view.specs.View.{Entry, Batch, View, file_record, batch_record, entry_record, addendum_record, batch_control_record, body_of, view_of}
 use Rattle.view_laws.proofs.BridgeSums.{entries_records, batches_records}
 use Rattle.view_laws.proofs.Own.{own_records}
-use Rattle.find_entry.proofs.Parts.{counted, stands, on, record_byte}
+use Rattle.check_record.specs.Record.{columns_in}
+use Rattle.find_entry.proofs.Walk.{columns_chunk, columns_none}
 use Rattle.recall_view.specs.RecallView.{named, entries_left, unless_empty, batches_left, without}
 use Rattle.recall_view.proofs.Left.{by_named}
 use Rattle.recall_close.specs.WorkMoving.{gone}
@@ -24,7 +24,6 @@ use Rattle.recall_close.specs.WorkReady.{Walkable}
 use Rattle.recall.specs.declared.batches.Kept.{Kept}
 use Rattle.recall.specs.WorkCounting.{kept_so, entry_counted, record_counted, counted_from}
 use Rattle.recall.proofs.LeftLaws.{typed}
-use Rattle.recall_close.proofs.CloseLaws.{inside}
 
 -- ---- one record, by its first byte
 
@@ -123,13 +122,6 @@ module _ (flags ns : List ℕ) (same : (k : ℕ) → gone flags k ≡ named k ns
 
 -- ---- the walk along the file
 
--- i records are passed: what is left tells the whole
-pub record Counted (way : Way) (flags f : List ℕ) (c : Kept) (i at : ℕ) : Type 0 where
-  pub entries : c.entries ≤ i
-  pub batches : c.batches ≤ i
-  pub there : at ≡ record_bytes way * i
-  pub whole : counted_from flags c (drop i (body_of (view_of way f))) ≡ counted_from flags (kept_so 0 false 0) (body_of (view_of way f))
-
 -- a record counts no more than one entry and one batch
 step_small : (flags : List ℕ) (c : Kept) (b : ℕ) → ((record_counted flags c b).entries ≤ c.entries + 1) × ((record_counted flags c b).batches ≤ c.batches + 1)
 step_small flags c b = go (eqb b 53) (eqb b 54) (gone flags (c.entries + 1)) c.empty
@@ -143,48 +135,43 @@ step_small flags c b = go (eqb b 53) (eqb b 54) (gone flags (c.entries + 1)) c.e
     go false true false false = (omega arith, omega arith)
     go false false goes empty = (omega arith, omega arith)
 
-module _ (way : Way) (flags f : List ℕ) (count : ℕ) (ok : Walkable way f count) where
-  pub counted_first : Counted way flags f (kept_so 0 false 0) 0 0
-  counted_first = record { entries = omega arith; batches = omega arith; there = sym (mul-zero (record_bytes way)); whole = refl }
+-- so many records are to be counted, of those that stand in `rest`: they tell the whole
+pub record Counted (way : Way) (flags f : List ℕ) (count : ℕ) (c : Kept) (left wide : ℕ) (rest : List ℕ) : Type 0 where
+  pub size : wide ≡ record_bytes way
+  pub entries : c.entries + left ≤ count
+  pub batches : c.batches + left ≤ count
+  pub whole : counted_from flags c (take left (columns_in way rest)) ≡ counted_from flags (kept_so 0 false 0) (body_of (view_of way f))
 
-  module _ (c : Kept) (i at : ℕ) (a : Counted way flags f c i at) (h : i < count) where
-    in_file : i < length f / record_bytes way
-    in_file = omega (arith, counted way (length f) (i + 1) (inside way flags f count ok (i + 1) (omega arith)))
+pub counted_first : (way : Way) (flags f : List ℕ) (count : ℕ) → Walkable way f count → {left wide : ℕ} {rest : List ℕ} → wide ≡ record_bytes way → left ≡ count → rest ≡ f
+    → Counted way flags f count (kept_so 0 false 0) left wide rest
+counted_first way flags f count ok {left} {wide} {rest} z l r =
+    let body = body_of (view_of way f) in
+    let records : take left (columns_in way rest) ≡ body = ap₂ (λ n xs. take n (columns_in way xs)) l r ∙ ap (take count) (own_records way f ok.accepted) ∙ take_at body _ count (sym ok.counted) in
+    record { size = z; entries = omega (arith, l); batches = omega (arith, l); whole = ap (counted_from flags (kept_so 0 false 0)) records }
 
-    -- the byte that is read is the record's first
-    first_byte : get_or (get_or (body_of (view_of way f)) i []) 0 0 ≡ get_or f at 0
-    first_byte =
-        let v = view_of way f in
-        ap (λ r. get_or r 0 0) (sym (ap (λ rs. get_or rs i []) (own_records way f ok.accepted) ∙ get_or-append (body_of v) _ [] i (omega (arith, ok.counted))))
-        ∙ record_byte way f i in_file 0 (lit< tt)
-        ∙ ap (λ n. get_or f n 0) (add-zero (record_bytes way * i) ∙ sym a.there)
-
-    -- it stands in the file,
-    pub counted_inside : at < length f
-    counted_inside = omega (arith, a.there, stands way (length f) i in_file)
-
-    -- and so does the next
-    pub counted_behind : at + record_bytes way ≤ length f
-    counted_behind = omega (arith, a.there, on way i, inside way flags f count ok (i + 1) (omega arith))
-
-    pub counted_next : (next : Kept) (n : ℕ) → next ≡ record_counted flags c (get_or f at 0) → n ≡ at + record_bytes way → Counted way flags f next (i + 1) n
-    unfolding counted_from
-    counted_next next n e m =
-        let body = body_of (view_of way f) in
-        let r = get_or body i [] in
-        let small = step_small flags c (get_or f at 0) in
-        let after : drop i body ≡ r ∷ drop (i + 1) body = rw add-one (drop-cons body i [] (omega (arith, ok.counted))) in
-        record {
-          entries = omega (arith, ap (λ (x : Kept). x.entries) e, small.0, a.entries);
-          batches = omega (arith, ap (λ (x : Kept). x.batches) e, small.1, a.batches);
-          there = m ∙ ap (λ k. k + record_bytes way) a.there ∙ on way i;
-          whole =
-              ap (λ x. counted_from flags x (drop (i + 1) body)) (e ∙ ap (record_counted flags c) (sym first_byte))
-              ∙ sym (ap (counted_from flags c) after)
-              ∙ a.whole;
-        }
-
-  pub counted_end : (c : Kept) (i at : ℕ) → Counted way flags f c i at → count ≤ i → c.batches ≡ counted_from flags (kept_so 0 false 0) (body_of (view_of way f))
+module _ {way : Way} {flags f : List ℕ} {count : ℕ} {c : Kept} {left wide : ℕ} {rest : List ℕ} (a : Counted way flags f count c left wide rest) where
+  pub counted_next : (x tail : List ℕ) (less : ℕ) (next : Kept) → rest ≡ x ++ tail → length x ≡ wide → less + 1 ≡ left → next ≡ record_counted flags c (get_or x 0 0)
+      → Counted way flags f count next less wide tail
   unfolding counted_from
-  counted_end c i at a h =
-      ap (counted_from flags c) (sym (drop_of_length-le (body_of (view_of way f)) {i = i} (omega (arith, ok.counted)))) ∙ a.whole
+  counted_next x tail less next e l m n =
+      let small = step_small flags c (get_or x 0 0) in
+      let more : left ≡ suc less = omega (arith, m) in
+      let records : take left (columns_in way rest) ≡ take 94 x ∷ take less (columns_in way tail) = ap₂ take more (ap (columns_in way) e ∙ columns_chunk way x tail (l ∙ a.size)) in
+      record {
+        size = a.size;
+        entries = omega (arith, ap (λ (k : Kept). k.entries) n, small.0, a.entries, m);
+        batches = omega (arith, ap (λ (k : Kept). k.batches) n, small.1, a.batches, m);
+        whole =
+            ap (λ k. counted_from flags k (take less (columns_in way tail))) (n ∙ ap (record_counted flags c) (sym (get_or-take 94 x 0 0 (lit< tt))))
+            ∙ sym (ap (counted_from flags c) records)
+            ∙ a.whole;
+      }
+
+  -- none is left, or no record stands there
+  pub counted_end : (0 < left → length rest < wide) → c.batches ≡ counted_from flags (kept_so 0 false 0) (body_of (view_of way f))
+  unfolding counted_from
+  counted_end h = ap (counted_from flags c) (sym (none left h)) ∙ a.whole
+    where
+      none : (n : ℕ) → (0 < n → length rest < wide) → take n (columns_in way rest) ≡ []
+      none zero h = refl
+      none (suc n) h = rw (columns_none way rest (omega (arith, h (omega arith), a.size))) refl

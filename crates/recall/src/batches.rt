@@ -5,7 +5,7 @@ ghost use Rattle.recall_close.specs.WorkReady.{Walkable};
 ghost use Rattle.recall.specs.WorkCounting.{kept_so, entry_counted, record_counted, counted_from};
 
 use layout::Way;
-use recall_close::bits;
+use recall_close::bits::Flags;
 
 // What is known of the records so far: how many entries came, whether none of the last batch's stays, and how many batches stay.
 #[derive(Clone, Copy)]
@@ -15,56 +15,35 @@ pub struct Kept {
     pub batches: usize,
 }
 
-// A batch stays with its first entry that does.
-fn count_entry(kept: Kept, flags: &[u8]) -> Kept
-    requires { (kept.entries + 1 < 1000000) × (length flags.now ≡ 125000) × (kept.batches < 1000000) }
-    ensures { result ≡ entry_counted flags.now kept }
-{
-    let entries = kept.entries + 1;
-    let batches = kept.batches;
-    let empty = kept.empty;
-    if bits::is_set(flags, entries) {
-        return Kept {
-            entries,
-            empty,
-            batches,
-        };
+impl Kept {
+    // A batch stays with its first entry that does.
+    fn count_entry(&mut self, flags: &Flags)
+        requires { (self.old.entries + 1 < 1000000) × (self.old.batches < 1000000) }
+        ensures { self.new ≡ entry_counted flags.now self.old }
+    {
+        self.entries += 1;
+        if self.empty && !flags.is_set(self.entries) {
+            self.empty = false;
+            self.batches += 1;
+        }
     }
-    if empty {
-        return Kept {
-            entries,
-            empty: false,
-            batches: batches + 1,
-        };
-    }
-    Kept {
-        entries,
-        empty: false,
-        batches,
-    }
-}
 
-// A record 5 begins a batch of which no entry stays so far.
-fn count_record(kept: Kept, flags: &[u8], first: u8) -> Kept
-    requires { (kept.entries + 1 < 1000000) × (length flags.now ≡ 125000) × (kept.batches < 1000000) }
-    ensures { result ≡ record_counted flags.now kept first }
-{
-    if first == b'5' {
-        return Kept {
-            entries: kept.entries,
-            empty: true,
-            batches: kept.batches,
-        };
+    // A record 5 begins a batch of which no entry stays so far.
+    fn count_record(&mut self, flags: &Flags, first: u8)
+        requires { (self.old.entries + 1 < 1000000) × (self.old.batches < 1000000) }
+        ensures { self.new ≡ record_counted flags.now self.old first }
+    {
+        match first {
+            b'5' => self.empty = true,
+            b'6' => self.count_entry(flags),
+            _ => {}
+        }
     }
-    if first == b'6' {
-        return count_entry(kept, flags);
-    }
-    kept
 }
 
 // Of an accepted file with so many records before its file control.
-pub(crate) fn batches_left(way: Way, file: &[u8], flags: &[u8], count: usize) -> usize
-    requires { Walkable way file.now count × (length flags.now ≡ 125000) }
+pub(crate) fn batches_left(way: Way, file: &[u8], flags: &Flags, count: usize) -> usize
+    requires { Walkable way file.now count }
     ensures { (result ≡ counted_from flags.now (kept_so 0 false 0) (body_of (view_of way file.now))) × (result < 1000000) }
 {
     let mut kept = Kept {
@@ -72,12 +51,8 @@ pub(crate) fn batches_left(way: Way, file: &[u8], flags: &[u8], count: usize) ->
         empty: false,
         batches: 0,
     };
-    let mut i = 0;
-    let mut at = 0;
-    while i < count {
-        kept = count_record(kept, flags, file[at]);
-        i += 1;
-        at += layout::record_bytes(way);
+    for rec in file.chunks_exact(layout::record_bytes(way)).take(count) {
+        kept.count_record(flags, rec[0]);
     }
     kept.batches
 }

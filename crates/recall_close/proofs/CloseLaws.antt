@@ -9,7 +9,7 @@ use mathlib.Core.Bool.{Bool, true, false}
 use mathlib.Core.List.{List, [], ◌∷◌, ◌++◌, map, map-append, append_assoc, append-nil}
 use borrow.Author.Tests.{eq-eqb, ne_eqb}
 use lib.ListN.{length, take, drop, get_or, replicate, length-drop, get_or-append, drop_of_length-le}
-use lib.Seq.{sets, length-take-le, drop-cons, drop-drop}
+use lib.Seq.{length-take-le, drop-cons, drop-drop}
 use Rattle.text.specs.Rows.{joined}
 use Rattle.text.specs.Widths.{AllLong}
 use Rattle.text.proofs.RowLaws.{joined_append}
@@ -19,27 +19,19 @@ use Rattle.layout.specs.declared.Line.{Line}
 use Rattle.check_across.specs.declared.Sums.{Sums}
 use Rattle.check_across.specs.WorkSmall.{Small}
 use Rattle.check_sums.specs.Sums.{next_sums}
-use Rattle.text.proofs.SetLaws.{sets_whole}
 use Rattle.view.specs.View.{closed_by, fillers_after, filler_record, body_of, records_of, view_of}
 use Rattle.view_laws.proofs.Reading.{file_length}
 use Rattle.view_laws.proofs.BridgeSums.{records_length, fillers_none, fillers_more}
 use Rattle.view_laws.proofs.Bridge.{accepted_view}
 use Rattle.view_laws.proofs.Own.{own_records}
 use Rattle.table_form.specs.Forms.{file_control_from}
-use Rattle.find_entry.proofs.Parts.{on, cut_out_lem, record_cut}
+use Rattle.find_entry.proofs.Parts.{on, record_cut}
 use Rattle.table_form.proofs.WalkLaws.{control_long, file_control_long}
 use Rattle.recall_close.specs.declared.moving.Sort.{Sort}
 use Rattle.recall_close.specs.declared.moving.Walk.{Walk}
 use Rattle.recall_close.specs.WorkMoving.{gone, sort_of, first_walk, opening, entry_kept, gives_by, next_by, gives_of, next_of, ending_of, left_from}
 use Rattle.recall_close.specs.WorkReady.{Walkable, waiting, Room, put_at, Passed, closed_up, Closed}
 use Rattle.recall_close.proofs.PutLaws.{put_front, put_back, put_length}
-
--- a record's columns, as the code reads them out
-pub read_out : (way : Way) (f zeros : List ℕ) (i at : ℕ) → length zeros ≡ 94 → at ≡ record_bytes way * i → record_bytes way * (i + 1) ≤ length f
-    → sets zeros 0 (take (at + 94 - at) (drop at f)) ≡ take 94 (drop (record_bytes way * i) f)
-read_out way f zeros i at l e h =
-    let long : length (take 94 (drop (record_bytes way * i) f)) ≡ 94 = length-take-le 94 (drop (record_bytes way * i) f) (rw length-drop (omega (arith, on way i))) in
-    rw e (ap (sets zeros 0) (cut_out_lem f (record_bytes way * i) 94) ∙ sets_whole zeros (take 94 (drop (record_bytes way * i) f)) (long ∙ sym l))
 
 -- ---- what one record gives
 
@@ -149,7 +141,6 @@ module _ (way : Way) (flags f₀ : List ℕ) (count : ℕ) (ok : Walkable way f�
     here r e =
         let v = view_of way f₀ in
         e ∙ ap (take 94) a.source
-        ∙ sym (cut_out_lem f₀ (record_bytes way * i) 94)
         ∙ record_cut way f₀ i (record_bytes way) refl (inside (i + 1) (omega arith))
         ∙ ap (λ rs. get_or rs i []) (own_records way f₀ ok.accepted)
         ∙ get_or-append (body_of v) _ [] i (omega (arith, ok.counted))

@@ -1,16 +1,19 @@
 -- The flags of the list's numbers, and whether an entry is left.
 -- Assumes nothing.
-use Prim.Native.Nat.{ℕ, zero, suc, ◌+◌, ◌-◌, ◌≤◌, ◌<◌}
-use native.Mathlib.Numerals.{add-one, sub-one}
+use Prim.Native.Nat.{ℕ, zero, suc, ◌+◌, ◌≤◌, ◌<◌}
+use native.Mathlib.Numerals.{add-one}
 use native.Mathlib.Omega.{arith}
 use mathlib.Core.Path.{◌≡◌, refl, sym, ap, ◌∙◌}
-use mathlib.Core.Bool.{Bool, true, false, ◌&&◌, ◌||◌, or-true, or-false}
+use mathlib.Core.Bool.{Bool, true, false, not, ◌&&◌, ◌||◌, or-true, or-false}
 use mathlib.Core.List.{List, [], ◌∷◌}
 use borrow.Author.Tests.{le-leb, lt-leb}
 use lib.Dec.{eqb, leb}
 use lib.ListN.{length, drop, get_or, drop_of_length-le}
 use lib.Seq.{drop-cons}
+use Rattle.std.specs.List.{list_any, range_with_len}
+use Rattle.text.specs.Decimal.{pick}
 use Rattle.view.specs.View.{Entry, View, entries_of}
+use Rattle.view_laws.proofs.Lists.{by_lt}
 use Rattle.view.specs.Outcome.{exists}
 use Rattle.recall_view.specs.RecallView.{named, entries_left, all_exist, without}
 use Rattle.recall_view.proofs.Left.{by_named, entries_without}
@@ -20,14 +23,11 @@ use Rattle.recall_close.specs.WorkMoving.{gone, some_left}
 
 -- the numbers before index i are entries' and are flagged: what is left tells the rest
 pub record Marking (ns : List ℕ) (count : ℕ) (flags : List ℕ) (i : ℕ) : Type 0 where
-  pub inside : i ≤ length ns
-  pub long : length flags ≡ 125000
   pub there : (v : View) → length (entries_of v) ≡ count → all_exist v (drop i ns) ≡ all_exist v ns
   pub marks : (k : ℕ) → (gone flags k || named k (drop i ns)) ≡ named k ns
 
-pub marking_first : (ns : List ℕ) (count : ℕ) (flags : List ℕ) → length flags ≡ 125000 → ((k : ℕ) → gone flags k ≡ false) → Marking ns count flags 0
-marking_first ns count flags l z =
-    record { inside = omega arith; long = l; there = λ v e. refl; marks = λ k. ap (λ b. b || named k ns) (z k) }
+by_le : {P : Type 0} (m n : ℕ) → (m ≤ n → P) → (n < m → P) → P
+by_le m n f g = by_lt n m (λ l e. g l) (λ l e. f l)
 
 module _ (ns : List ℕ) (i : ℕ) (h : i < length ns) where
   next : drop i ns ≡ get_or ns i 0 ∷ drop (i + 1) ns
@@ -50,14 +50,14 @@ module _ {ns : List ℕ} {count : ℕ} {flags : List ℕ} {i : ℕ} (m : Marking
   bad : (v : View) → length (entries_of v) ≡ count → exists v (get_or ns i 0) ≡ false → false ≡ all_exist v ns
   bad v e f = sym (exist_next ns i h v ∙ rw f refl) ∙ m.there v e
 
-  pub bad_zero : get_or ns i 0 < 1 → (v : View) → length (entries_of v) ≡ count → false ≡ all_exist v ns
-  bad_zero z v e = bad v e (rw (lt-leb 1 (get_or ns i 0) z) refl)
-
-  pub bad_past : count < get_or ns i 0 → 1 ≤ get_or ns i 0 → (v : View) → length (entries_of v) ≡ count → false ≡ all_exist v ns
-  bad_past p o v e = bad v e (rw (le-leb 1 (get_or ns i 0) o, e, lt-leb (get_or ns i 0) count p) refl)
+  pub bad_number : (1 ≤ get_or ns i 0 → get_or ns i 0 ≤ count → ⊥) → (v : View) → length (entries_of v) ≡ count → false ≡ all_exist v ns
+  bad_number f v e =
+      by_le 1 (get_or ns i 0)
+      (λ o. by_le (get_or ns i 0) count (λ p. absurd (f o p)) (λ p. bad v e (rw (le-leb 1 (get_or ns i 0) o, e, lt-leb (get_or ns i 0) count p) refl)))
+      (λ z. bad v e (rw (lt-leb 1 (get_or ns i 0) z) refl))
 
   -- one that is: its flag is set, and no other one
-  module _ (o : 1 ≤ get_or ns i 0) (p : get_or ns i 0 ≤ count) (after : List ℕ) (same : length after ≡ length flags) (sets : (k : ℕ) → gone after k ≡ (eqb (get_or ns i 0) k || gone flags k)) where
+  module _ (o : 1 ≤ get_or ns i 0) (p : get_or ns i 0 ≤ count) (after : List ℕ) (sets : (k : ℕ) → gone after k ≡ (eqb (get_or ns i 0) k || gone flags k)) where
     marks_on : (k : ℕ) → (gone after k || named k (drop (i + 1) ns)) ≡ named k ns
     marks_on k =
         let rest = named k (drop (i + 1) ns) in
@@ -69,8 +69,6 @@ module _ {ns : List ℕ} {count : ℕ} {flags : List ℕ} {i : ℕ} (m : Marking
     pub marking_on : Marking ns count after (i + 1)
     marking_on =
         record {
-          inside = omega arith;
-          long = same ∙ m.long;
           there = λ v e. sym (exist_next ns i h v ∙ rw (le-leb 1 (get_or ns i 0) o, e, le-leb (get_or ns i 0) count p) refl) ∙ m.there v e;
           marks = marks_on;
         }
@@ -87,20 +85,15 @@ module _ {ns : List ℕ} {count : ℕ} {flags : List ℕ} {i : ℕ} (m : Marking
 
 -- ---- whether an entry is left
 
-pub some_found : (flags : List ℕ) (k n : ℕ) → 0 < n → gone flags k ≡ false → true ≡ some_left flags k n
+-- by the numbers in turn
+pub some_in_range : (flags : List ℕ) (k n : ℕ) → list_any (λ j. not (gone flags j)) (range_with_len k n) ≡ some_left flags k n
 unfolding some_left
-some_found flags k zero h g = absurd (omega arith)
-some_found flags k (suc n) h g = rw g refl
-
-pub some_further : (flags : List ℕ) (k n : ℕ) → 0 < n → gone flags k ≡ true → some_left flags (k + 1) (n - 1) ≡ some_left flags k n
-unfolding some_left
-some_further flags k zero h g = absurd (omega arith)
-some_further flags k (suc n) h g = rw (g, sub-one) refl
-
-pub some_none : (flags : List ℕ) (k n : ℕ) → n ≤ 0 → false ≡ some_left flags k n
-unfolding some_left
-some_none flags k zero h = refl
-some_none flags k (suc n) h = absurd (omega arith)
+some_in_range flags k zero = refl
+some_in_range flags k (suc n) = go (gone flags k) (some_in_range flags (k + 1) n)
+  where
+    go : (b : Bool) {rest later : Bool} → rest ≡ later → (not b || rest) ≡ pick b later true
+    go true e = e
+    go false e = refl
 
 -- as the view has it
 module _ (flags ns : List ℕ) (same : (k : ℕ) → gone flags k ≡ named k ns) where

@@ -3,11 +3,12 @@
 use Prim.Native.Nat.{ℕ, ◌+◌, ◌*◌, ◌≤◌}
 use native.Mathlib.Nat.{add-zero, mul-add, mul-le-mul_left}
 use native.Mathlib.Omega.{arith}
-use mathlib.Core.Path.{◌≡◌, refl, sym, ap, ◌∙◌}
+use mathlib.Core.Path.{◌≡◌, refl, sym, ap, ◌∙◌, subst}
 use mathlib.Core.Bool.{Bool, true, false}
 use mathlib.Core.List.{List, [], ◌∷◌, ◌++◌, map, map-append, append-nil}
 use lib.ListN.{length, take, drop, length-append}
 use lib.Seq.{sets, sets-eq, length-sets, length-take-le, take_at}
+use Rattle.text.specs.Decimal.{pick}
 use Rattle.text.specs.Rows.{joined}
 use Rattle.text.specs.Widths.{AllLong}
 use Rattle.text.proofs.RowLaws.{joined_append}
@@ -17,14 +18,15 @@ use Rattle.layout.specs.Ways.{end_of, record_bytes}
 use Rattle.layout.specs.declared.Line.{Line}
 use Rattle.check_across.specs.declared.Sums.{Sums}
 use Rattle.check_across.specs.WorkSmall.{Small}
-use Rattle.check_sums.specs.Sums.{next_sums}
+use Rattle.check_sums.specs.Sums.{next_sums, add_record, add_batch, add_addendum}
 use Rattle.check_sums.proofs.SumLaws.{records_next}
 use Rattle.view.specs.View.{closed_by}
 use Rattle.view_laws.proofs.Ways.{closed_length}
+use Rattle.table_form.specs.Forms.{batch_control_from}
 use Rattle.find_entry.proofs.Parts.{on}
 use Rattle.recall_close.specs.declared.moving.Walk.{Walk}
-use Rattle.recall_close.specs.WorkMoving.{opening, opened}
-use Rattle.recall_close.specs.WorkReady.{Room, put_at}
+use Rattle.recall_close.specs.WorkMoving.{walk, opening, opened, begun, entry_kept, addendum_gives, addendum_next, control_gives, control_next}
+use Rattle.recall_close.specs.WorkReady.{Room, put_at, Passed}
 
 -- the record and its line end stand in the file
 pub put_inside : (way : Way) (f : List ℕ) (s : Sums) → Room way f s 0 → record_bytes way * s.records + record_bytes way ≤ length f
@@ -80,15 +82,6 @@ put_length way f n rs = length-sets f (record_bytes way * n) (joined (map (close
 
 -- ---- room for the next one
 
--- room behind those that wait is room before them
-pub room_less : (way : Way) (f : List ℕ) (s : Sums) (n : ℕ) → Room way f s n → Room way f s 0
-room_less way f s n h =
-    record {
-      small = h.small;
-      few = omega (arith, h.few);
-      inside = omega (arith, h.inside, mul-le-mul_left {m = s.records + 0 + 1} {n = s.records + n + 1} (record_bytes way) (omega arith));
-    }
-
 -- one of two is put
 pub room_on : (way : Way) (f g : List ℕ) (s next : Sums) (line : Line) (r : List ℕ) → Room way f s 1 → next ≡ next_sums s line r → Small next → length g ≡ length f → Room way g next 0
 room_on way f g s next line r h e small l =
@@ -99,7 +92,52 @@ room_on way f g s next line r h e small l =
       inside = omega (arith, h.inside, ap (λ n. record_bytes way * (n + 0 + 1)) more, ap (λ n. record_bytes way * (n + 1)) (add-zero (s.records + 1)));
     }
 
+-- ---- what is known behind a record
+
+-- nothing is put
+pub none_passed : (way : Way) (f : List ℕ) (w next : Walk) → Small next.sums → Passed way f w [] next next f
+none_passed way f w next h = record { known = refl; put = put_none way f w.sums.records; small = h }
+
+-- one is put, and counted
+pub one_passed : (way : Way) (f g r : List ℕ) (w : Walk) (line : Line) (s : Sums) (entries : ℕ) (held stays : Bool) → (s ≡ next_sums w.sums line r) × Small s × (g ≡ put_at way w.sums.records (r ∷ []) f)
+    → Passed way f w (r ∷ []) (walk (next_sums w.sums line r) w.header entries held stays) (walk s w.header entries held stays) g
+one_passed way f g r w line s entries held stays h =
+    record { known = ap (λ x. walk x w.header entries held stays) h.0; put = h.2; small = h.1 }
+
+-- an addendum, as its entry stays or goes
+module _ (way : Way) (f r : List ℕ) (w : Walk) where
+  pub addendum_put : (s : Sums) (g : List ℕ) → w.stays ≡ true → (s ≡ next_sums w.sums Line.Addendum r) × Small s × (g ≡ put_at way w.sums.records (r ∷ []) f)
+      → Passed way f w (addendum_gives w r) (addendum_next w) (walk s w.header w.entries w.held w.stays) g
+  addendum_put s g e h =
+      subst (λ b. Passed way f w (pick b (r ∷ []) []) (pick b (walk (add_addendum w.sums) w.header w.entries w.held w.stays) w) (walk s w.header w.entries w.held w.stays) g) (sym e)
+      (one_passed way f g r w Line.Addendum s w.entries w.held w.stays h)
+
+  pub addendum_gone : w.stays ≡ false → Small w.sums → Passed way f w (addendum_gives w r) (addendum_next w) w f
+  addendum_gone e h =
+      subst (λ b. Passed way f w (pick b (r ∷ []) []) (pick b (walk (add_addendum w.sums) w.header w.entries w.held w.stays) w) w f) (sym e) (none_passed way f w w h)
+
+-- a batch control, as its batch has an entry that stays or none
+module _ (way : Way) (f : List ℕ) (w : Walk) where
+  pub control_put : (control : List ℕ) (s : Sums) (g : List ℕ) → w.held ≡ false → control ≡ batch_control_from w.sums w.header
+      → (s ≡ next_sums w.sums Line.BatchControl control) × Small s × (g ≡ put_at way w.sums.records (control ∷ []) f)
+      → Passed way f w (control_gives w) (control_next w) (walk s w.header w.entries false false) g
+  control_put control s g e c h =
+      subst (λ b. Passed way f w (pick b [] (batch_control_from w.sums w.header ∷ [])) (walk (pick b w.sums (add_record w.sums)) w.header w.entries false false) (walk s w.header w.entries false false) g) (sym e)
+      (rw (← c) (one_passed way f g control w Line.BatchControl s w.entries false false h))
+
+  pub control_gone : w.held ≡ true → Small w.sums → Passed way f w (control_gives w) (control_next w) (walk w.sums w.header w.entries false false) f
+  control_gone e h =
+      subst (λ b. Passed way f w (pick b [] (batch_control_from w.sums w.header ∷ [])) (walk (pick b w.sums (add_record w.sums)) w.header w.entries false false) (walk w.sums w.header w.entries false false) f) (sym e)
+      (none_passed way f w (walk w.sums w.header w.entries false false) h)
+
 -- ---- behind the record 5 that waits
+
+-- none waits
+pub begun_none : (w : Walk) → w.held ≡ false → w ≡ begun w
+begun_none w e = ap (λ h. walk w.sums w.header w.entries h w.stays) e ∙ ap (λ h. walk (pick h (add_batch w.sums w.header) w.sums) w.header w.entries false w.stays) (sym e)
+
+pub kept_as : (w b : Walk) (s : Sums) (r : List ℕ) → b ≡ begun w → s ≡ next_sums b.sums Line.Entry r → walk s b.header (b.entries + 1) b.held true ≡ entry_kept w r
+kept_as w b s r e n = rw (n, e) refl
 
 opened_by : (held : Bool) (w : Walk) → w.held ≡ held → (opened w).records ≡ w.sums.records + length (opening w)
 opened_by true w e = rw e refl

@@ -35,6 +35,10 @@ opening w = pick w.held (w.header ∷ []) []
 abbrev pub opened : Walk → Sums
 opened w = pick w.held (add_batch w.sums w.header) w.sums
 
+-- none waits any more
+abbrev pub begun : Walk → Walk
+begun w = walk (opened w) w.header w.entries false w.stays
+
 -- an entry goes, or it stays: the records that it gives to the new file, and what is known behind it
 abbrev pub entry_gives : List ℕ → Walk → List ℕ → List (List ℕ)
 entry_gives flags w r = pick (gone flags (w.entries + 1)) [] (opening w ++ (r ∷ []))

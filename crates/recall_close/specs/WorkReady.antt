@@ -1,9 +1,9 @@
 -- What the code relies on while it closes up a file, and no rule of the paper.
+use Rattle.std.specs.Prelude.{Ok}
 use Rattle.std.specs.Prelude.{ℕ, ◌+◌, ◌*◌, ◌≤◌, ◌<◌, ◌≡◌, List, ◌++◌, map, length, take}
 use Rattle.std.proofs.lemmas.List.Edits.{sets}
 use Rattle.text.specs.Decimal.{pick}
 use Rattle.text.specs.Rows.{joined}
-use Rattle.layout.specs.declared.Answer.{Answer}
 use Rattle.layout.specs.declared.Way.{Way}
 use Rattle.layout.specs.Ways.{record_bytes}
 use Rattle.check_across.specs.declared.Sums.{Sums}
@@ -15,7 +15,7 @@ use Rattle.recall_close.specs.WorkMoving.{first_walk, ending_of, left_from}
 
 -- the file is accepted, and has this many records before its file control
 pub record Walkable (way : Way) (f : List ℕ) (count : ℕ) : Type 0 where
-  pub accepted : (checked_of way f).answer ≡ Answer.Granted
+  pub accepted : (checked_of way f).answer ≡ Ok tt
   pub counted : count ≡ length (body_of (view_of way f))
 
 -- how many records wait

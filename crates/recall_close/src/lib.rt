@@ -1,7 +1,7 @@
 // The file closed up: the records that stay from the front on, the file control, the filler, and blanks.
 #![tactic(auto)]
 
-ghost use Rattle.std.specs.Prelude.{◌+◌, ◌-◌, ◌*◌, ◌≤◌, ◌≡◌, ◌++◌, map, length, take, drop, replicate};
+ghost use Rattle.std.specs.Prelude.{◌+◌, ◌-◌, ◌*◌, ◌≤◌, ◌≡◌, ◌++◌, map, length, take, replicate};
 ghost use Rattle.text.specs.Rows.{joined};
 ghost use Rattle.layout.specs.Ways.{record_bytes};
 ghost use Rattle.check_across.specs.WorkSmall.{Small};
@@ -9,6 +9,8 @@ ghost use Rattle.view.specs.View.{closed_by, fillers_after};
 ghost use Rattle.recall_close.specs.WorkMoving.{ending_of};
 ghost use Rattle.recall_close.specs.WorkReady.{Walkable, closed_up, Closed};
 
+use crate::bits::Flags;
+use crate::moving::Walk;
 use check_across::Sums;
 use layout::{Line, Way};
 use table_form::forms;
@@ -17,31 +19,18 @@ pub mod bits;
 pub mod marking;
 pub mod moving;
 
-// The columns of record `i`, counted from 0, by value: what is put next may lie over them.
-fn record_at(way: Way, file: &[u8], i: usize) -> [u8; 94]
-    requires { record_bytes way * (i + 1) ≤ length file.now }
-    ensures { result ≡ take 94 (drop (record_bytes way * i) file.now) }
-{
-    let at = layout::record_bytes(way) * i;
-    let mut rec = [0u8; 94];
-    text::copy_into(&mut rec, 0, &file[at..at + 94]);
-    rec
-}
-
 // The records before the file control, those that stay put one behind the other from the front on.
-fn close_up(way: Way, file: &mut [u8], flags: &[u8], count: usize) -> Sums
-    requires { Walkable way file.old count × (length flags.now ≡ 125000) }
+fn close_up(way: Way, file: &mut [u8], flags: &Flags, count: usize) -> Sums
+    requires { Walkable way file.old count }
     ensures { Closed way flags.now file.old count result file.new }
 {
-    let mut w = moving::first();
-    let mut i = 0;
-    while i < count {
-        let rec = record_at(way, file, i);
-        let next = moving::pass_record(way, file, w, flags, rec);
-        w = next;
-        i += 1;
+    let mut walk = Walk::first();
+    for i in 0..count {
+        // by value: what is put next may lie over it
+        let rec: [u8; 94] = *text::chunk(file, layout::record_bytes(way) * i);
+        walk.pass_record(way, file, flags, &rec);
     }
-    w.sums
+    walk.sums
 }
 
 // The file control, and fillers up to a whole block; how many records the file then has.
@@ -58,25 +47,13 @@ fn end_file(way: Way, file: &mut [u8], sums: Sums) -> usize
     so_far.records as usize
 }
 
-// Blanks over the whole slice.
-fn blank(s: &mut [u8])
-    ensures { s.new ≡ replicate (length s.old) 32 }
-{
-    let mut i = 0;
-    while i < s.len() {
-        s[i] = 32;
-        i += 1;
-    }
-}
-
 // The file without the flagged entries, and blanks behind it; its new length.
-pub fn shorten(way: Way, file: &mut [u8], flags: &[u8], count: usize) -> usize
-    requires { Walkable way file.old count × (length flags.now ≡ 125000) }
+pub fn shorten(way: Way, file: &mut [u8], flags: &Flags, count: usize) -> usize
+    requires { Walkable way file.old count }
     ensures { (result ≡ length (closed_up way flags.now file.old)) × (file.new ≡ closed_up way flags.now file.old ++ replicate (length file.old - result) 32) }
 {
     let sums = close_up(way, file, flags, count);
     let size = layout::record_bytes(way) * end_file(way, file, sums);
-    let end = file.len();
-    blank(&mut file[size..end]);
+    file[size..].fill(b' ');
     size
 }

@@ -1,4 +1,5 @@
 -- Entries taken out of a worked file of two batches, of which the second entry has an addendum. Each fact is computed from the definitions.
+use Rattle.std.specs.Prelude.{Ok}
 use mathlib.Core.Path.{◌≡◌, refl}
 use mathlib.Core.List.{List, [], ◌∷◌, ◌++◌}
 use Prim.Native.Nat.{ℕ}
@@ -6,9 +7,8 @@ use lib.ListN.{replicate}
 use Rattle.text.specs.Decimal.{every, value_from, render}
 use Rattle.text.specs.Same.{same_bytes}
 use Rattle.text.specs.Rows.{rows, joined}
-use Rattle.layout.specs.declared.Answer.{Answer}
 use Rattle.layout.specs.declared.Fault.{Fault}
-use Rattle.layout.specs.declared.Made.{Made}
+use Rattle.layout.specs.Answers.{Made}
 use Rattle.layout.specs.declared.Way.{Way}
 use Rattle.check_digit.specs.CheckDigit.{weighed}
 use Rattle.check_alone.specs.Own.{unbroken}
@@ -68,21 +68,21 @@ pub record Recalled : Type 0 where
   -- the controls are now records 4 and 8, the list says so, and what stands behind it stays
   pub plain : recall Way.Plain (2 ∷ []) lent
       ≡ record {
-        gives = record { answer = Answer.Granted; length = 940 };
+        gives = record { answer = Ok tt; length = 940 };
         leaves = file_of Way.Plain (without sent (2 ∷ [])) ++ replicate 940 32;
         rows = 4 ∷ 100 ∷ 8 ∷ 1140 ∷ 5 ∷ [];
       }
   -- blanks there are with line ends too
   pub lined : recall Way.Lined (2 ∷ []) lent
       ≡ record {
-        gives = record { answer = Answer.Granted; length = 960 };
+        gives = record { answer = Ok tt; length = 960 };
         leaves = file_of Way.Lined (without sent (2 ∷ [])) ++ replicate 960 32;
         rows = 4 ∷ 100 ∷ 8 ∷ 1140 ∷ 5 ∷ [];
       }
   -- "the room is measured by the batches left": one row is enough where one batch is left
   pub one_row : recall Way.Plain (2 ∷ 1 ∷ []) (1 ∷ 2 ∷ [])
       ≡ record {
-        gives = record { answer = Answer.Granted; length = 940 };
+        gives = record { answer = Ok tt; length = 940 };
         leaves = file_of Way.Plain (without sent (2 ∷ 1 ∷ [])) ++ replicate 940 32;
         rows = 5 ∷ 1040 ∷ [];
       }
@@ -93,7 +93,7 @@ pub record Recalled : Type 0 where
   -- "correct every control field": the new file is accepted, with the numbers of what stays
   pub accepted : checked_of Way.Plain (file_of Way.Plain (without sent (2 ∷ 4 ∷ [])))
       ≡ record {
-        answer = Answer.Granted;
+        answer = Ok tt;
         batches = 2;
         entries = 2;
         addenda = 0;
@@ -103,13 +103,13 @@ pub record Recalled : Type 0 where
       }
   -- "An empty list is granted and changes nothing."
   pub none : recall Way.Plain [] lent
-      ≡ record { gives = record { answer = Answer.Granted; length = 1880 }; leaves = file_of Way.Plain sent; rows = 6 ∷ 100 ∷ 10 ∷ 1140 ∷ 5 ∷ [] }
+      ≡ record { gives = record { answer = Ok tt; length = 1880 }; leaves = file_of Way.Plain sent; rows = 6 ∷ 100 ∷ 10 ∷ 1140 ∷ 5 ∷ [] }
   -- "0 is a bad number"; there is no entry 5; "25 before 27"; "27 is asked of the set"
   pub zeroth : recall Way.Plain (1 ∷ 0 ∷ []) lent ≡ refused_with Fault.NoEntry lent
   pub fifth : recall Way.Plain (5 ∷ 1 ∷ []) lent ≡ refused_with Fault.NoEntry lent
   pub all_and_fifth : recall Way.Plain (1 ∷ 2 ∷ 3 ∷ 4 ∷ 5 ∷ []) lent ≡ refused_with Fault.NoEntry lent
   pub all : recall Way.Plain (4 ∷ 2 ∷ 3 ∷ 1 ∷ 1 ∷ []) lent ≡ refused_with Fault.NoneLeft lent
-  pub as_many : (recall Way.Plain (2 ∷ 3 ∷ 1 ∷ 1 ∷ []) lent).gives ≡ record { answer = Answer.Granted; length = 940 }
+  pub as_many : (recall Way.Plain (2 ∷ 3 ∷ 1 ∷ 1 ∷ []) lent).gives ≡ record { answer = Ok tt; length = 940 }
 
 -- all of them hold
 pub recalled : Recalled

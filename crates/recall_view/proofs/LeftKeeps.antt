@@ -1,5 +1,6 @@
 -- What stays keeps the rules: traces and batch numbers still rise, totals only fall, records only become fewer.
 -- Assumes that the view kept the rules.
+use Rattle.std.specs.Prelude.{Ok}
 use mathlib.Core.Path.{◌≡◌, sym, subst, ◌∙◌}
 use mathlib.Core.Bool.{Bool, true, false, ◌&&◌}
 use mathlib.Core.List.{List, [], ◌∷◌}
@@ -14,7 +15,6 @@ use Rattle.text.proofs.DecimalLaws.{and_both}
 use Rattle.layout.specs.declared.Fault.{Fault}
 use Rattle.layout.specs.declared.Row.{Row}
 use Rattle.layout.specs.Fields.{part, entry, batch_header}
-use Rattle.check_alone.specs.declared.Mark.{Mark}
 use Rattle.check_alone.specs.Kinds.{need}
 use Rattle.check_across.specs.declared.Sums.{Sums}
 use Rattle.check_across.specs.Across.{trace_bank, trace_number, entry_trace, batch_bank, batch_number, trace_follows, trace_rule, batch_number_rule}
@@ -47,16 +47,16 @@ behind_entry : (n t x : ℕ) (e : Entry) → trace_follows (seen 0 (n + records_
 behind_entry n t x e = rw (ne_eqb (n + records_in e) 0 (λ z. omega arith))
 
 -- of an entry that keeps the rules the trace follows
-trace_right : (n t : ℕ) (h p : List ℕ) → trace_rule (seen 0 n t) h p ≡ Mark.Right
+trace_right : (n t : ℕ) (h p : List ℕ) → trace_rule (seen 0 n t) h p ≡ Ok tt
     → (digits p ≡ true) × (same_bytes (trace_bank p) (batch_bank h) ≡ true) × (trace_follows (seen 0 n t) (trace_number p) ≡ true)
 trace_right n t h p e =
     let same = same_bytes (trace_bank p) (batch_bank h) in
     let follows = trace_follows (seen 0 n t) (trace_number p) in
-    let one = need_right (digits p) Fault.Digits (need (same && follows) Fault.Trace Mark.Right) e in
-    let two = and_both same follows (need_right (same && follows) Fault.Trace Mark.Right one.1).0 in
+    let one = need_right (digits p) Fault.Digits (need (same && follows) Fault.Trace (Ok tt)) e in
+    let two = and_both same follows (need_right (same && follows) Fault.Trace (Ok tt) one.1).0 in
     (one.0, two.0, two.1)
 
-trace_moved : (n t m s : ℕ) (h p : List ℕ) → Follows n t m s → trace_rule (seen 0 n t) h p ≡ Mark.Right → trace_rule (seen 0 m s) h p ≡ Mark.Right
+trace_moved : (n t m s : ℕ) (h p : List ℕ) → Follows n t m s → trace_rule (seen 0 n t) h p ≡ Ok tt → trace_rule (seen 0 m s) h p ≡ Ok tt
 trace_moved n t m s h p f e =
     let r = trace_right n t h p e in
     rw (r.0, r.1, f.on (trace_number p) r.2)
@@ -67,13 +67,13 @@ trace_moved n t m s h p f e =
 renewed : (n : ℕ) (rows : List Row) (s s' : Sums) (h r : List ℕ) → (Right (take n rows) s h r → Right (take n rows) s' h r)
     → Right rows s h r → Right (drop n rows) s' h r → Right rows s' h r
 renewed n rows s s' h r f a b =
-    let new : Row → Type 0 = λ row. field_of s' h r row ≡ Mark.Right in
-    subst (All new) (take-append-drop n rows) (all_append new (take n rows) (drop n rows) (f (all_take (λ row. field_of s h r row ≡ Mark.Right) n rows a)) b)
+    let new : Row → Type 0 = λ row. field_of s' h r row ≡ Ok tt in
+    subst (All new) (take-append-drop n rows) (all_append new (take n rows) (drop n rows) (f (all_take (λ row. field_of s h r row ≡ Ok tt) n rows a)) b)
 
 -- ---- the entries of a batch
 
-entry_trace_lem : (h : List ℕ) (n t : ℕ) (e : Entry) → EntryKeeps h n t e → trace_rule (seen 0 n t) h (part entry 11 (entry_record e)) ≡ Mark.Right
-entry_trace_lem h n t e k = (all_drop (λ row. field_of (seen 0 n t) h (entry_record e) row ≡ Mark.Right) 10 entry k.fields).0
+entry_trace_lem : (h : List ℕ) (n t : ℕ) (e : Entry) → EntryKeeps h n t e → trace_rule (seen 0 n t) h (part entry 11 (entry_record e)) ≡ Ok tt
+entry_trace_lem h n t e k = (all_drop (λ row. field_of (seen 0 n t) h (entry_record e) row ≡ Ok tt) 10 entry k.fields).0
 
 entry_moved : (h : List ℕ) (n t m s : ℕ) (e : Entry) → Follows n t m s → EntryKeeps h n t e → EntryKeeps h m s e
 entry_moved h n t m s e f k =
@@ -105,22 +105,22 @@ entries_keep ns k h n t m s (e ∷ es) f a =
 
 -- ---- batches
 
-number_right : (number : ℕ) (p : List ℕ) → batch_number_rule (seen number 0 0) p ≡ Mark.Right
+number_right : (number : ℕ) (p : List ℕ) → batch_number_rule (seen number 0 0) p ≡ Ok tt
     → (digits p ≡ true) × (leb 1 (value p) ≡ true) × (number < value p)
 number_right number p e =
     let some = leb 1 (value p) in
     let more = ltb number (value p) in
-    let one = need_right (digits p) Fault.Digits (need (some && more) Fault.BatchNumber Mark.Right) e in
-    let two = and_both some more (need_right (some && more) Fault.BatchNumber Mark.Right one.1).0 in
+    let one = need_right (digits p) Fault.Digits (need (some && more) Fault.BatchNumber (Ok tt)) e in
+    let two = and_both some more (need_right (some && more) Fault.BatchNumber (Ok tt) one.1).0 in
     (one.0, two.0, ltb-true number (value p) two.1)
 
-number_moved : (number less : ℕ) (p : List ℕ) → less ≤ number → batch_number_rule (seen number 0 0) p ≡ Mark.Right → batch_number_rule (seen less 0 0) p ≡ Mark.Right
+number_moved : (number less : ℕ) (p : List ℕ) → less ≤ number → batch_number_rule (seen number 0 0) p ≡ Ok tt → batch_number_rule (seen less 0 0) p ≡ Ok tt
 number_moved number less p h e =
     let r = number_right number p e in
     rw (r.0, r.1, lt-ltb less (value p) (omega (arith, r.2)))
 
-batch_number_lem : (number : ℕ) (b : Batch) → BatchKeeps number b → batch_number_rule (seen number 0 0) (part batch_header 13 (batch_record b)) ≡ Mark.Right
-batch_number_lem number b k = (all_drop (λ row. field_of (seen number 0 0) [] (batch_record b) row ≡ Mark.Right) 12 batch_header k.fields).0
+batch_number_lem : (number : ℕ) (b : Batch) → BatchKeeps number b → batch_number_rule (seen number 0 0) (part batch_header 13 (batch_record b)) ≡ Ok tt
+batch_number_lem number b k = (all_drop (λ row. field_of (seen number 0 0) [] (batch_record b) row ≡ Ok tt) 12 batch_header k.fields).0
 
 left_within : (ns : List ℕ) (k : ℕ) (es : List Entry) → Within es → Within (entries_left ns k es)
 left_within ns k es w =

@@ -1,5 +1,6 @@
 -- Taking out, for any bytes and any list: when it is granted, what it gives, and what it leaves.
 -- Assumes nothing; what a grant leaves is told of granted calls.
+use Rattle.std.specs.Prelude.{Ok, Err}
 use mathlib.Core.Path.{◌≡◌, refl, sym, ap, ap₂, subst, ◌∙◌}
 use mathlib.Core.Logic.{◌↔◌}
 use mathlib.Core.Bool.{Bool, true, false}
@@ -13,8 +14,7 @@ use lib.Seq.{take-append_seam, drop-append_seam}
 use Rattle.text.specs.Rows.{section}
 use Rattle.text.proofs.DecimalLaws.{and_both, both_and}
 use Rattle.layout.specs.declared.Fault.{Fault}
-use Rattle.layout.specs.declared.Answer.{Answer}
-use Rattle.layout.specs.declared.Made.{Made}
+use Rattle.layout.specs.Answers.{Answer, Made}
 use Rattle.layout.specs.declared.Refusal.{Refusal}
 use Rattle.layout.specs.declared.Way.{Way}
 use Rattle.check_across.specs.Across.{batch_number}
@@ -29,8 +29,8 @@ use Rattle.view_laws.proofs.Tables.{entries_in, texts_in, view_of_table_lem, for
 use Rattle.view_laws.proofs.Reading.{view_of_file}
 use Rattle.view_laws.proofs.Bridge.{granted, accepted_view}
 use Rattle.view_laws.proofs.BridgeFields.{by_eq, never}
-use Rattle.view_laws.proofs.Alter.{same_test}
-use Rattle.view_laws.proofs.Answers.{not_granted, demand_granted, then_granted, then_refused}
+use Rattle.std.proofs.lemmas.Bool.Decides.{same_from_decides}
+use Rattle.view_laws.proofs.Answers.{demand_granted, then_granted, then_refused}
 use Rattle.funds.specs.Funds.{rows_of, in_front, enough_rows}
 use Rattle.funds.specs.Outcome.{Listed, relisted}
 use Rattle.recall_view.specs.RecallView.{named, entries_left, unless_empty, batches_left, without, table_without, all_exist, take_out_answer, shortened, take_out_of}
@@ -53,12 +53,12 @@ table_sections t ns =
 
 -- ---- the new file, of an accepted one with an entry left
 
-module _ (way : Way) (f ns : List ℕ) (g : (checked_of way f).answer ≡ Answer.Granted) where
+module _ (way : Way) (f ns : List ℕ) (g : (checked_of way f).answer ≡ Ok tt) where
   sized : Sized (without (view_of way f) ns)
   sized = without_sized (view_of way f) ns (accepted_view way f g).sized
 
   -- the file is accepted
-  pub result_accepted : 1 ≤ length (entries_of (without (view_of way f) ns)) → (checked_of way (file_of way (without (view_of way f) ns))).answer ≡ Answer.Granted
+  pub result_accepted : 1 ≤ length (entries_of (without (view_of way f) ns)) → (checked_of way (file_of way (without (view_of way f) ns))).answer ≡ Ok tt
   result_accepted some = granted way (without (view_of way f) ns) sized (without_keeps (view_of way f) ns (accepted_view way f g).keeps some)
 
   -- and says what is left
@@ -104,7 +104,7 @@ module _ (ns ms : List ℕ) (same : (k : ℕ) → named k ns ≡ named k ms) whe
 -- every number of the list is an entry's exactly if every one that is named is
 named_exist : (v : View) (ns : List ℕ) → all_exist v ns ≡ true → (k : ℕ) → named k ns ≡ true → exists v k ≡ true
 unfolding named all_exist
-named_exist v [] a k h = never h
+named_exist v [] a k h = cc
 named_exist v (n ∷ ns) a k h =
     let both = and_both (exists v n) (all_exist v ns) a in
     by_eq n k
@@ -123,13 +123,13 @@ pub same_outcome : (way : Way) (f ns ms held : List ℕ) → ((k : ℕ) → name
 same_outcome way f ns ms held same =
     let v = view_of way f in
     let all : all_exist v ns ≡ all_exist v ms =
-    same_test (all_exist v ns) (all_exist v ms)
-    (λ a. exist_named v ms (λ k h. named_exist v ns a k (same k ∙ h)))
-    (λ a. exist_named v ns (λ k h. named_exist v ms a k (sym (same k) ∙ h))) in
+    same_from_decides {P = (k : ℕ) → named k ns ≡ true → exists v k ≡ true} (all_exist v ns) (all_exist v ms)
+    (named_exist v ns, exist_named v ns)
+    (λ a k h. named_exist v ms a k (sym (same k) ∙ h), λ e. exist_named v ms (λ k h. e k (same k ∙ h))) in
     let answer : Bool → View → Answer = λ exist left.
     and_then (checked_of way f).answer
     (demand exist (refusal Fault.NoEntry 0 0)
-    (demand (leb 1 (length (entries_of left))) (refusal Fault.NoneLeft 0 0) (demand (enough_rows left (length held)) (refusal Fault.Room 0 0) Answer.Granted))) in
+    (demand (leb 1 (length (entries_of left))) (refusal Fault.NoneLeft 0 0) (demand (enough_rows left (length held)) (refusal Fault.Room 0 0) (Ok tt)))) in
     let outcome : Bool → View → Listed Made = λ exist left.
     let done = shortened (answer exist left) (file_of way left) f in
     record { gives = done.gives; leaves = done.leaves; rows = relisted (answer exist left) left held } in
@@ -167,23 +167,23 @@ without_none v k = ap (λ bs. record { row = v.row; batches = bs }) (batches_non
 -- ---- when it is granted
 
 answered : (x : Answer) (result f : List ℕ) → (shortened x result f).gives.answer ≡ x
-answered Answer.Granted result f = refl
-answered (Answer.Refused r) result f = refl
+answered (Ok _) result f = refl
+answered (Err r) result f = refl
 
 -- an accepted file, a list of entries that there are, an entry left, and room for a row of each batch left
 pub record Removable (way : Way) (f ns held : List ℕ) : Type 0 where
-  pub accepted : (checked_of way f).answer ≡ Answer.Granted
+  pub accepted : (checked_of way f).answer ≡ Ok tt
   pub numbers : all_exist (view_of way f) ns ≡ true
   pub left : 1 ≤ length (entries_of (without (view_of way f) ns))
   pub room : 2 * length (without (view_of way f) ns).batches ≤ length held
 
-pub take_out_exactly : (way : Way) (f ns held : List ℕ) → ((take_out_of way f ns held).gives.answer ≡ Answer.Granted) ↔ Removable way f ns held
+pub take_out_exactly : (way : Way) (f ns held : List ℕ) → ((take_out_of way f ns held).gives.answer ≡ Ok tt) ↔ Removable way f ns held
 take_out_exactly way f ns held =
     let v = view_of way f in
     let left = without v ns in
     let some = leb 1 (length (entries_of left)) in
     let needed = 2 * length left.batches in
-    let last = demand (enough_rows left (length held)) (refusal Fault.Room 0 0) Answer.Granted in
+    let last = demand (enough_rows left (length held)) (refusal Fault.Room 0 0) (Ok tt) in
     let rest = demand some (refusal Fault.NoneLeft 0 0) last in
     let asked = demand (all_exist v ns) (refusal Fault.NoEntry 0 0) rest in
     let told = answered (take_out_answer way f ns (length held)) (file_of way left) f in (
@@ -191,7 +191,7 @@ take_out_exactly way f ns held =
           let a = then_granted (checked_of way f).answer asked (sym told ∙ e) in
           let b = demand_granted (all_exist v ns) _ rest a.1 in
           let c = demand_granted some _ last b.1 in
-          let d = demand_granted (enough_rows left (length held)) _ Answer.Granted c.1 in
+          let d = demand_granted (enough_rows left (length held)) _ (Ok tt) c.1 in
           record { accepted = a.0; numbers = b.0; left = leb-true 1 (length (entries_of left)) c.0; room = leb-true needed (length held) d.0 },
       λ r. told ∙ rw (r.accepted, r.numbers, le-leb 1 (length (entries_of left)) r.left, le-leb needed (length held) r.room),
     )
@@ -203,10 +203,10 @@ module _ (way : Way) (f ns held : List ℕ) where
   told = answered (take_out_answer way f ns (length held)) (file_of way (without (view_of way f) ns)) f
 
   -- "the file's own",
-  pub refused_own : (x : Refusal) → (checked_of way f).answer ≡ Answer.Refused x → (take_out_of way f ns held).gives.answer ≡ Answer.Refused x
+  pub refused_own : (x : Refusal) → (checked_of way f).answer ≡ Err x → (take_out_of way f ns held).gives.answer ≡ Err x
   refused_own x e = told ∙ then_refused (checked_of way f).answer _ x e
 
-  module _ (g : (checked_of way f).answer ≡ Answer.Granted) where
+  module _ (g : (checked_of way f).answer ≡ Ok tt) where
     -- "25 for the first bad number in the list": for one that is bad, wherever it stands
     pub refused_number : (k : ℕ) → named k ns ≡ true → exists (view_of way f) k ≡ false → (take_out_of way f ns held).gives.answer ≡ refusal Fault.NoEntry 0 0
     refused_number k h bad = told ∙ rw (g, go (all_exist (view_of way f) ns) refl)
@@ -229,25 +229,25 @@ module _ (way : Way) (f ns held : List ℕ) where
 -- ---- what it leaves
 
 -- "every refusal leaves lent memory untouched", the list too, and its length is 0
-pub take_out_refused : (way : Way) (f ns held : List ℕ) (r : Refusal) → (take_out_of way f ns held).gives.answer ≡ Answer.Refused r
+pub take_out_refused : (way : Way) (f ns held : List ℕ) (r : Refusal) → (take_out_of way f ns held).gives.answer ≡ Err r
     → ((take_out_of way f ns held).leaves ≡ f) × ((take_out_of way f ns held).rows ≡ held) × ((take_out_of way f ns held).gives.length ≡ 0)
 take_out_refused way f ns held r e = go (take_out_answer way f ns (length held)) e
   where
     left : View
     left = without (view_of way f) ns
 
-    go : (x : Answer) → (shortened x (file_of way left) f).gives.answer ≡ Answer.Refused r
+    go : (x : Answer) → (shortened x (file_of way left) f).gives.answer ≡ Err r
         → ((shortened x (file_of way left) f).leaves ≡ f) × (relisted x left held ≡ held) × ((shortened x (file_of way left) f).gives.length ≡ 0)
-    go Answer.Granted e = not_granted (sym e)
-    go (Answer.Refused p) e = (refl, refl, refl)
+    go (Ok _) e = cc
+    go (Err p) e = (refl, refl, refl)
 
 -- a grant gives the new length, and leaves the new file with blanks behind it
-granted_leaves : (x : Answer) (result f : List ℕ) → (shortened x result f).gives.answer ≡ Answer.Granted
+granted_leaves : (x : Answer) (result f : List ℕ) → (shortened x result f).gives.answer ≡ Ok tt
     → ((shortened x result f).gives.length ≡ length result) × ((shortened x result f).leaves ≡ result ++ replicate (length f - length result) 32)
-granted_leaves Answer.Granted result f e = (refl, refl)
-granted_leaves (Answer.Refused r) result f e = not_granted e
+granted_leaves (Ok _) result f e = (refl, refl)
+granted_leaves (Err r) result f e = cc
 
-module _ (way : Way) (f ns held : List ℕ) (e : (take_out_of way f ns held).gives.answer ≡ Answer.Granted) where
+module _ (way : Way) (f ns held : List ℕ) (e : (take_out_of way f ns held).gives.answer ≡ Ok tt) where
   may : Removable way f ns held
   may = (take_out_exactly way f ns held).0 e
 
@@ -281,7 +281,7 @@ module _ (way : Way) (f ns held : List ℕ) (e : (take_out_of way f ns held).giv
   front = take_out_written ∙ result_written way f ns may.accepted
 
   -- that file is accepted
-  pub take_out_accepted : (checked_of way (take (take_out_of way f ns held).gives.length (take_out_of way f ns held).leaves)).answer ≡ Answer.Granted
+  pub take_out_accepted : (checked_of way (take (take_out_of way f ns held).gives.length (take_out_of way f ns held).leaves)).answer ≡ Ok tt
   take_out_accepted = ap (λ g. (checked_of way g).answer) front ∙ result_accepted way f ns may.accepted may.left
 
   -- it says what the old one said, without those entries
@@ -303,17 +303,17 @@ some_entry : (number : ℕ) (bs : List Batch) → BatchesKeep number bs → 1 �
 some_entry number [] a h = h
 some_entry number (b ∷ bs) a h = rw (length-append b.entries (entries_in bs)) (omega (arith, a.0.nonempty))
 
-unchanged : (x : Answer) (result f : List ℕ) → x ≡ Answer.Granted → result ≡ f
-    → shortened x result f ≡ record { gives = record { answer = Answer.Granted; length = length f }; leaves = f }
+unchanged : (x : Answer) (result f : List ℕ) → x ≡ Ok tt → result ≡ f
+    → shortened x result f ≡ record { gives = record { answer = Ok tt; length = length f }; leaves = f }
 unchanged x result f p q =
     let none : length f - length f ≡ 0 = omega arith in
     ap₂ (λ y r. shortened y r f) p q
-    ∙ ap (λ l. record { gives = record { answer = Answer.Granted; length = length f }; leaves = l }) (ap (λ n. f ++ replicate n 32) none ∙ append-nil f)
+    ∙ ap (λ l. record { gives = record { answer = Ok tt; length = length f }; leaves = l }) (ap (λ n. f ++ replicate n 32) none ∙ append-nil f)
 
 -- and "changes nothing" of the file
-pub take_out_none : (way : Way) (f held : List ℕ) → (checked_of way f).answer ≡ Answer.Granted → 2 * length (view_of way f).batches ≤ length held
+pub take_out_none : (way : Way) (f held : List ℕ) → (checked_of way f).answer ≡ Ok tt → 2 * length (view_of way f).batches ≤ length held
     → take_out_of way f [] held
-    ≡ record { gives = record { answer = Answer.Granted; length = length f }; leaves = f; rows = in_front (rows_of (view_of way f)) held }
+    ≡ record { gives = record { answer = Ok tt; length = length f }; leaves = f; rows = in_front (rows_of (view_of way f)) held }
 unfolding all_exist
 take_out_none way f held g h =
     let v = view_of way f in

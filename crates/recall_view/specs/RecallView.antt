@@ -1,9 +1,8 @@
 -- "Recalled payments taken out": which entries stay, and what taking out gives and leaves, for any bytes and any list.
-use Rattle.std.specs.Prelude.{ℕ, ◌+◌, ◌-◌, Bool, true, false, ◌&&◌, ◌||◌, List, [], ◌∷◌, ◌++◌, eqb, leb, length, replicate}
+use Rattle.std.specs.Prelude.{Ok, Err, ℕ, ◌+◌, ◌-◌, Bool, true, false, ◌&&◌, ◌||◌, List, [], ◌∷◌, ◌++◌, eqb, leb, length, replicate}
 use Rattle.text.specs.Decimal.{pick}
 use Rattle.layout.specs.declared.Fault.{Fault}
-use Rattle.layout.specs.declared.Answer.{Answer}
-use Rattle.layout.specs.declared.Made.{Made}
+use Rattle.layout.specs.Answers.{Answer, Made}
 use Rattle.layout.specs.declared.Way.{Way}
 use Rattle.check_record.specs.Record.{checked_of}
 use Rattle.view.specs.View.{Entry, Batch, View, entries_of, file_of, view_of}
@@ -54,17 +53,17 @@ take_out_answer way f ns n =
     and_then (checked_of way f).answer
     (demand (all_exist (view_of way f) ns) (refusal Fault.NoEntry 0 0)
     (demand (leb 1 (length (entries_of (without (view_of way f) ns)))) (refusal Fault.NoneLeft 0 0)
-    (demand (enough_rows (without (view_of way f) ns) n) (refusal Fault.Room 0 0) Answer.Granted)))
+    (demand (enough_rows (without (view_of way f) ns) n) (refusal Fault.Room 0 0) (Ok tt))))
 
 -- "The freed bytes after the new end become blanks, and the new length is given."
 abbrev pub shortened : Answer → List ℕ → List ℕ → Outcome Made
-shortened Answer.Granted result f =
+shortened (Ok _) result f =
     record {
-      gives = record { answer = Answer.Granted; length = length result };
+      gives = record { answer = Ok tt; length = length result };
       leaves = result ++ replicate (length f - length result) 32;
     }
-shortened (Answer.Refused r) result f =
-    record { gives = record { answer = Answer.Refused r; length = 0 }; leaves = f }
+shortened (Err r) result f =
+    record { gives = record { answer = Err r; length = 0 }; leaves = f }
 
 -- "taking entries out rebuilds it": the list, which held `held`, is that of the file left
 abbrev pub take_out_of : Way → List ℕ → List ℕ → List ℕ → Listed Made

@@ -6,7 +6,7 @@ use mathlib.Core.Path.{◌≡◌, refl, sym, ap, ◌∙◌}
 use mathlib.Core.List.{List, [], ◌∷◌, ◌++◌, map, append_assoc, append-nil}
 use lib.Dec.{lit<, lit≤}
 use lib.ListN.{length, get_or, set, take, drop, replicate, length-replicate, length-take, length-drop}
-use lib.Seq.{sets, sets-eq, drop-drop, take_all, take-take}
+use lib.Seq.{sets, sets-eq, drop-drop, take_all, take-take, take-add}
 use Rattle.text.specs.Decimal.{render}
 use Rattle.text.specs.Rows.{joined}
 use Rattle.text.specs.Widths.{Wide, total}
@@ -15,7 +15,7 @@ use Rattle.check_across.specs.declared.Sums.{Sums}
 use Rattle.check_field.specs.Field.{blocks, hash_of}
 use Rattle.view_laws.proofs.Lists.{set_field, wide_set, puts}
 use Rattle.table_form.specs.Forms.{file_from, batch_from, entry_from, addendum_from, batch_control_from, file_control_from}
-use Rattle.text.proofs.SetLaws.{drop_take}
+use Rattle.text.proofs.SetLaws.{drop_take, sets_append}
 
 -- a text for each of these fields, by their numbers from 0
 abbrev replaced : List (List ℕ) → List (ℕ × List ℕ) → List (List ℕ)
@@ -104,14 +104,16 @@ addendum_formed row text h g =
 
 -- record 8
 pub batch_control_formed : (s : Sums) (h : List ℕ) → length h ≡ 94
-    → sets (sets (sets (sets (sets (sets (sets (sets (sets fresh 0 (56 ∷ [])) 1 (take 3 (drop 1 h))) 4 (render 6 s.batchrecords))
+    → sets (sets (sets (sets (sets (sets (sets (sets fresh 0 (56 ∷ [])) 1 (take 3 (drop 1 h))) 4 (render 6 s.batchrecords))
     10 (render 10 (s.batchhash % 10000000000))) 20 (render 12 s.batchdebit)) 32 (render 12 s.batchcredit))
-    44 (take 10 (drop 40 h))) 79 (take 8 (drop 79 h))) 87 (take 7 (drop 87 h)) ≡ batch_control_from s h
+    44 (take 10 (drop 40 h))) 79 (take 15 (drop 79 h)) ≡ batch_control_from s h
 unfolding joined
 batch_control_formed s h l =
     let ws : List ℕ = 1 ∷ 3 ∷ 6 ∷ 10 ∷ 12 ∷ 12 ∷ 10 ∷ 19 ∷ 6 ∷ 8 ∷ 7 ∷ [] in
     let cut : (w at : ℕ) → at + w ≤ 94 → length (take w (drop at h)) ≡ w = λ w at m. simp (length-take, length-drop) (omega arith) in
-    put_fields ws (empty ws)
+    let back : take 15 (drop 79 h) ≡ take 8 (drop 79 h) ++ take 7 (drop 87 h) = take-add 8 7 (drop 79 h) ∙ ap (λ l. take 8 (drop 79 h) ++ take 7 l) (drop-drop 8 79 h) in
+    rw (back, sets_append, cut 8 79 (lit≤ tt))
+    (put_fields ws (empty ws)
     ((0, 56 ∷ []) ∷ (1, take 3 (drop 1 h)) ∷ (2, render 6 s.batchrecords) ∷ (3, render 10 (hash_of s.batchhash))
     ∷ (4, render 12 s.batchdebit) ∷ (5, render 12 s.batchcredit) ∷ (6, take 10 (drop 40 h)) ∷ (9, take 8 (drop 79 h))
     ∷ (10, take 7 (drop 87 h)) ∷ [])
@@ -135,7 +137,7 @@ batch_control_formed s h l =
           ),
         ),
       ),
-    )
+    ))
 
 -- record 9
 pub file_control_formed : (s : Sums)

@@ -1,20 +1,27 @@
 -- Where the sections of a table stand by bytes, and its rows one by one.
 -- Assumes nothing.
-use Prim.Native.Nat.{ℕ, zero, suc, ◌+◌, ◌-◌, ◌*◌, ◌<◌, ◌≤◌}
+use Prim.Native.Nat.{ℕ, zero, suc, ◌+◌, ◌-◌, ◌*◌, ◌/◌, ◌<◌, ◌≤◌, zero-le, suc-le-suc}
+use native.Mathlib.Nat.{mul-suc, mul-div_cancel_left}
 use native.Mathlib.Numerals.{sub-one}
 use native.Mathlib.Omega.{arith}
 use mathlib.Core.Path.{◌≡◌, refl, sym, ap, ◌∙◌}
-use mathlib.Core.Bool.{Bool, true, false, ◌&&◌, and_assoc}
+use mathlib.Core.Bool.{Bool, true, false, ◌&&◌}
 use mathlib.Core.List.{List, [], ◌∷◌}
-use borrow.Author.Tests.{ne_eqb, eq-eqb}
-use lib.Dec.{eqb, lit<, lit≤}
-use lib.ListN.{length, get_or, take, drop}
-use lib.Seq.{drop-drop, get_or-take, get_or-drop}
-use Rattle.text.specs.Decimal.{digits, value}
+use borrow.Author.Tests.{eq-eqb, eqb-true}
+use lib.Dec.{eqb, lit≤}
+use lib.ListN.{length, get_or, take, drop, length-take, length-drop}
+use lib.Seq.{drop-drop, take-take, take_all}
+use Rattle.std.specs.Simd.{first_chunks}
+use Rattle.std.specs.List.{sum_by, list_all}
+use Rattle.std.specs.Bool.{then_some}
+use Rattle.std.specs.Option.{MatchOption}
+use Rattle.std.proofs.lemmas.Bool.{false≢true}
+use Rattle.std.proofs.lemmas.List.Sums.{sum_by-cons}
+use Rattle.text.specs.Decimal.{pick, digits, value}
 use Rattle.text.specs.Rows.{rows}
+use Rattle.text.proofs.DecimalLaws.{and_both}
 use Rattle.text.proofs.RowLaws.{get_d_columns}
 use Rattle.text.proofs.SetLaws.{drop_take}
-use Rattle.check_order.specs.Order.{takes_addendum}
 use Rattle.view.specs.View.{sum_over}
 use Rattle.view.specs.Table.{batch_part, entry_part, addendum_part, count_of, rows_in, every_row, entries_due, addenda_due, shaped}
 use Rattle.table_form.specs.declared.Sections.{Sections}
@@ -75,23 +82,54 @@ rows_none w (suc n) at t h = absurd (omega arith)
 pub number_at : (t : List ℕ) (at : ℕ) → drop 89 (take 95 (drop at t)) ≡ take 6 (drop (at + 89) t)
 number_at t at = drop_take 89 6 (drop at t) ∙ ap (take 6) (drop-drop 89 at t)
 
--- column 79 of an entry's record
-flag_at_lem : (t : List ℕ) (at : ℕ) → takes_addendum (54 ∷ take 93 (drop at t)) ≡ eqb (get_or t (at + 77) 0) 49
-flag_at_lem t at =
-    ap (λ b. eqb b 49)
-    (get_d_columns 79 79 (54 ∷ take 93 (drop at t)) 0 (lit≤ tt) ∙ get_or-take 93 (drop at t) 77 0 (lit< tt) ∙ get_or-drop at t 77 0)
+-- ---- rows as a slice of arrays
+
+-- chunks are rows
+chunks_rows : (w k : ℕ) (xs : List ℕ) → first_chunks w k xs ≡ rows w k xs
+unfolding rows
+chunks_rows w zero xs = refl
+chunks_rows w (suc k) xs = ap (λ rs. take w xs ∷ rs) (chunks_rows w k (drop w xs))
+
+-- what follows the rows plays no part
+rows_take : (w k n : ℕ) (xs : List ℕ) → n ≡ w * k → rows w k (take n xs) ≡ rows w k xs
+unfolding rows
+rows_take w zero n xs e = refl
+rows_take w (suc k) n xs e =
+    let f : n ≡ w + w * k = omega (arith, mul-suc w k) in
+    rw (f, take-take w (w + w * k) xs (omega arith), drop_take w (w * k) xs)
+    (ap (λ rs. take w xs ∷ rs) (rows_take w k (w * k) (drop w xs) refl))
+
+-- a part of a table, cut into arrays
+pub rows_part : (w k from : ℕ) (t : List ℕ) → 0 < w → from + w * k ≤ length t
+    → (part : List ℕ) → part ≡ take (from + w * k - from) (drop from t) → first_chunks w (length part / w) part ≡ rows w k (drop from t)
+rows_part w k from t h room part e =
+    let n : from + w * k - from ≡ w * k = omega arith in
+    let long : length (take (w * k) (drop from t)) ≡ w * k = simp (length-take, length-drop) (omega arith) in
+    rw (e, n, long, mul-div_cancel_left k h) (chunks_rows w k (take (w * k) (drop from t)) ∙ rows_take w k (w * k) (drop from t) refl)
+
+-- each row is w bytes long
+abbrev pub Long : ℕ → List (List ℕ) → Type 0
+Long w rs = (i : ℕ) → i < length rs → length (get_or rs i []) ≡ w
+
+long_tail : (w : ℕ) (r : List ℕ) (rs : List (List ℕ)) → Long w (r ∷ rs) → Long w rs
+long_tail w r rs long i h = long (suc i) (suc-le-suc h)
+
+-- a test and a sum that say the same of a row that is w bytes long
+pub test_rows : (w : ℕ) (p q : List ℕ → Bool) (rs : List (List ℕ)) → ((r : List ℕ) → length r ≡ w → p r ≡ q r) → Long w rs
+    → list_all p rs ≡ every_row q rs
+unfolding every_row
+test_rows w p q [] same long = refl
+test_rows w p q (r ∷ rs) same long =
+    rw (same r (long zero (suc-le-suc zero-le)), test_rows w p q rs same (long_tail w r rs long))
+
+pub sum_rows : (w : ℕ) (f g : List ℕ → ℕ) (rs : List (List ℕ)) → ((r : List ℕ) → length r ≡ w → f r ≡ g r) → Long w rs
+    → sum_by f rs ≡ sum_over g rs
+unfolding sum_over
+sum_rows w f g [] same long = refl
+sum_rows w f g (r ∷ rs) same long =
+    sum_by-cons f r rs ∙ rw (same r (long zero (suc-le-suc zero-le)), sum_rows w f g rs same (long_tail w r rs long))
 
 -- ---- a loop over rows
-
-module _ (p : List ℕ → Bool) where
-  pub every_first : (w n at : ℕ) (t : List ℕ) (all : Bool) → 0 < n
-      → (all && p (take w (drop at t)) && every_row p (rows w (n - 1) (drop (at + w) t))) ≡ (all && every_row p (rows w n (drop at t)))
-  unfolding every_row
-  every_first w n at t all h = rw (rows_first w n at t h) (and_assoc all (p (take w (drop at t))) _)
-
-  pub every_none : (w n at : ℕ) (t : List ℕ) → n ≤ 0 → every_row p (rows w n (drop at t)) ≡ true
-  unfolding every_row
-  every_none w n at t h = rw (rows_none w n at t h) refl
 
 module _ (f : List ℕ → ℕ) where
   pub sum_first : (w n at : ℕ) (t : List ℕ) → 0 < n
@@ -99,29 +137,26 @@ module _ (f : List ℕ → ℕ) where
   unfolding sum_over
   sum_first w n at t h = rw (rows_first w n at t h) refl
 
-  pub sum_none : (w n at : ℕ) (t : List ℕ) → n ≤ 0 → sum_over f (rows w n (drop at t)) ≡ 0
-  unfolding sum_over
-  sum_none w n at t h = rw (rows_none w n at t h) refl
+-- a batch's row ends with its number of entries
+pub number_ends : (row : List ℕ) → length row ≡ 95 → take 6 (drop 89 row) ≡ drop 89 row
+number_ends row long = take_all 6 (drop 89 row) (rw length-drop (omega arith))
+
+-- column 79 of an entry's record stands in its row
+pub flag_in : (row : List ℕ) → pick (eqb (get_or row 77 0) 49) 1 0 ≡ addenda_due row
+flag_in row = ap (λ b. pick (eqb b 49) 1 0) (sym (get_d_columns 79 79 (54 ∷ row) 0 (lit≤ tt)))
 
 -- what one row adds
 pub entries_in_lem : (t : List ℕ) (at : ℕ) → entries_due (take 95 (drop at t)) ≡ count_at t (at + 89)
 entries_in_lem t at = ap value (number_at t at)
 
-pub due_yes : (t : List ℕ) (at : ℕ) → get_or t (at + 77) 0 ≡ 49 → addenda_due (take 93 (drop at t)) ≡ 1
-due_yes t at e = rw (flag_at_lem t at, eq-eqb (get_or t (at + 77) 0) 49 e) refl
-
-pub due_no : (t : List ℕ) (at : ℕ) → (get_or t (at + 77) 0 ≡ 49 → ⊥) → addenda_due (take 93 (drop at t)) ≡ 0
-due_no t at e = rw (flag_at_lem t at, ne_eqb (get_or t (at + 77) 0) 49 e) refl
-
 -- ---- the whole shape
 
-and_false : (b : Bool) → b && false ≡ false
-and_false true = refl
-and_false false = refl
+-- a test behind another, which is made where the first one passes
+pub next_test : {a b v : Bool} → a ≡ true → v ≡ b → v ≡ (a && b)
+next_test e f = rw e f
 
--- a table that is too short for its counts
-pub size_wrong : (t : List ℕ) → (length t ≡ size_by t → ⊥) → eqb (length t) (size_by t) ≡ false
-size_wrong t h = ne_eqb (length t) (size_by t) h
+pub stop_test : {a v : Bool} (b : Bool) → a ≡ false → v ≡ a → v ≡ (a && b)
+stop_test b e f = rw e (f ∙ e)
 
 -- the shape's six tests, by bytes from the table's start
 abbrev pub plain_by : List ℕ → Sections → Bool
@@ -148,27 +183,19 @@ module _ (t : List ℕ) (s : Sections) (c : Counted t s) where
       let n = count_of (entry_part t) in
       rw (c.entryrows, c.batches, c.entries, c.addenda, batch_rows_at t, entry_rows_at t, addenda_at t, entries_at t)
 
-  -- the first of them that fails
-  pub plain_fails : plain_by t s ≡ false → shaped t ≡ false
-  plain_fails h = shape_by ∙ rw h
+  -- where the length is right, the last of the other tests decides
+  pub due_decides : length t ≡ size_by t → (plain_by t s && numbers_by t s && eqb (count_at t 0) 1 && taken_by t s) ≡ true → shaped t ≡ due_by t s
+  due_decides size e =
+      let f = and_both (plain_by t s && numbers_by t s && eqb (count_at t 0) 1) (taken_by t s) e in
+      shape_by ∙ rw (f.0, eq-eqb _ _ size, f.1)
 
-  pub numbers_fail : numbers_by t s ≡ false → shaped t ≡ false
-  numbers_fail h = shape_by ∙ rw (h, and_false (plain_by t s))
-
-  pub one_fails : eqb (count_at t 0) 1 ≡ false → shaped t ≡ false
-  one_fails h = shape_by ∙ rw (h, and_false (plain_by t s && numbers_by t s))
-
-  pub taken_fails : taken_by t s ≡ false → shaped t ≡ false
-  taken_fails h =
-      shape_by ∙ rw (h, and_false (plain_by t s && numbers_by t s && eqb (count_at t 0) 1 && eqb (length t) (size_by t)))
-
-  -- and the last one decides
-  pub due_decides : plain_by t s ≡ true → numbers_by t s ≡ true → eqb (count_at t 0) 1 ≡ true → eqb (length t) (size_by t) ≡ true
-      → taken_by t s ≡ true → shaped t ≡ due_by t s
-  due_decides a b d e f = shape_by ∙ rw (a, b, d, e, f)
-
-pub size_fails : (t : List ℕ) → eqb (length t) (size_by t) ≡ false → shaped t ≡ false
-size_fails t h = rw (h, and_false) refl
+  pub shape_wrong : (plain_by t s && numbers_by t s && eqb (count_at t 0) 1 && taken_by t s) ≡ false → shaped t ≡ false
+  shape_wrong e = shape_by ∙ go (plain_by t s && numbers_by t s && eqb (count_at t 0) 1) (taken_by t s) (eqb (length t) (size_by t)) e
+    where
+      go : (x y z : Bool) → (x && y) ≡ false → (x && z && y && due_by t s) ≡ false
+      go true y true e = rw e
+      go true y false e = refl
+      go false y z e = refl
 
 -- the counts as the code reads them
 pub counted_by : (t : List ℕ) (b n m : ℕ) → (b ≡ count_at t 91) × (b < 1000000) → (n ≡ count_at t (97 + 95 * b)) × (n < 1000000)
@@ -189,3 +216,13 @@ counted_by t b n m e f g =
 -- a table of the right length is as long as its sections
 pub size_by_lem : (t : List ℕ) (s : Sections) → Counted t s → length t ≡ size_by t → length t ≡ 109 + 95 * s.batches + 93 * s.entries + 80 * s.addenda
 size_by_lem t s c e = omega (arith, c.batches, c.entries, c.addenda)
+
+-- the counts, where the table is as long as they say
+pub then_sized : (t : List ℕ) (s : Sections) → Counted t s
+    → MatchOption (then_some (eqb (length t) (s.textrows + 80 * s.addenda)) s) (length t ≡ size_by t → ⊥) (λ r. (length t ≡ size_by t) × Counted t r)
+then_sized t s c = go (eqb (length t) (s.textrows + 80 * s.addenda)) refl
+  where
+    go : (x : Bool) → eqb (length t) (s.textrows + 80 * s.addenda) ≡ x
+        → MatchOption (then_some x s) (length t ≡ size_by t → ⊥) (λ r. (length t ≡ size_by t) × Counted t r)
+    go true e = (omega (arith, eqb-true _ _ e, c.batches, c.entries, c.addenda, c.textrows), c)
+    go false e = λ f. absurd (false≢true (sym e ∙ eq-eqb _ _ (omega (arith, f, c.batches, c.entries, c.addenda, c.textrows))))

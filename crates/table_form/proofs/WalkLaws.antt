@@ -1,5 +1,6 @@
 -- What is still to be formed from a cursor on: the next record stands in front of it, and the rest is what the next cursor leaves.
 -- Assumes that the cursor's rows lie in the table.
+use Rattle.std.specs.Prelude.{Ok}
 use Prim.Native.Nat.{ℕ, zero, suc, ◌+◌, ◌-◌, ◌*◌, ◌<◌, ◌≤◌}
 use native.Mathlib.Nat.{zero-add, zero-mul, le_of_eq}
 use native.Mathlib.Numerals.{sub-one}
@@ -19,7 +20,6 @@ use Rattle.layout.specs.Fields.{rows_of, first_field}
 use Rattle.check_across.specs.declared.Sums.{Sums}
 use Rattle.check_order.specs.declared.Place.{Place}
 use Rattle.check_sums.specs.declared.State.{State}
-use Rattle.check_record.specs.declared.Verdict.{Verdict}
 use Rattle.check_order.specs.Order.{filled, line_at, takes_addendum, complete}
 use Rattle.check_sums.specs.Sums.{add_record, add_batch, add_entry, add_addendum, tally}
 use Rattle.check_record.specs.Record.{fields_from, line_of, stepped, bare, record_of}
@@ -177,7 +177,7 @@ pub record Turn (t : List ℕ) (c : Cursor) (st : State) (r : List ℕ) (c' : Cu
   pub rest : List (List ℕ)
   pub long : length r ≡ 94
   pub form : todo t c st ≡ r ∷ rest
-  pub onward : (record_of st (bare r)).verdict ≡ Verdict.Passed → Onward t c' (tally st (line_of st r) r) rest
+  pub onward : (record_of st (bare r)).verdict ≡ Ok tt → Onward t c' (tally st (line_of st r) r) rest
 
 -- by the line that r is taken for
 taken_for : (t : List ℕ) (c' : Cursor) (st : State) (r : List ℕ) (rest : List (List ℕ)) (line : Line) → line_of st r ≡ line
@@ -185,10 +185,10 @@ taken_for : (t : List ℕ) (c' : Cursor) (st : State) (r : List ℕ) (rest : Lis
 taken_for t c' st r rest line e o = subst (λ l. Onward t c' (tally st l r) rest) (sym e) o
 
 -- a record that may not stand here does not pass
-misplaced : {A : Type 0} (st : State) (r : List ℕ) → line_of st r ≡ Line.Other → (record_of st (bare r)).verdict ≡ Verdict.Passed → A
+misplaced : {A : Type 0} (st : State) (r : List ℕ) → line_of st r ≡ Line.Other → (record_of st (bare r)).verdict ≡ Ok tt → A
 unfolding fields_from
 misplaced st r e p =
-    let f = subst (λ line. (stepped (fields_from (first_field line) (rows_of line) st.sums st.header r) (tally st line r) st).verdict ≡ Verdict.Passed) e p in
+    let f = subst (λ line. (stepped (fields_from (first_field line) (rows_of line) st.sums st.header r) (tally st line r) st).verdict ≡ Ok tt) e p in
     let z : ◌≡◌ {A = ℕ} 0 1 = cc f in
     absurd (omega arith)
 

@@ -28,23 +28,23 @@ fn next_batch(table: &[u8], c: Cursor, sums: Sums) -> [u8; 94]
     requires { (c.batch + 95 * c.batches ≤ length table.now) × Small sums }
     ensures { result ≡ batch_next table.now c sums }
 {
-    let at = c.batch;
     if 0 < c.batches {
-        return forms::batch_header(&table[at..at + 95]);
+        forms::batch_header(text::chunk(table, c.batch))
+    } else {
+        forms::file_control(sums)
     }
-    forms::file_control(sums)
 }
 
 // Record 6 of the next entry, or behind the batch's last one the record 8.
-fn next_entry(table: &[u8], c: Cursor, sums: Sums, header: &[u8]) -> [u8; 94]
-    requires { (c.entry + 93 * c.left ≤ length table.now) × (length header.now ≡ 94) }
+fn next_entry(table: &[u8], c: Cursor, sums: Sums, header: &[u8; 94]) -> [u8; 94]
+    requires { c.entry + 93 * c.left ≤ length table.now }
     ensures { result ≡ entry_next table.now c sums header.now }
 {
-    let at = c.entry;
     if 0 < c.left {
-        return forms::entry(&table[at..at + 93]);
+        forms::entry(text::chunk(table, c.entry))
+    } else {
+        forms::batch_control(sums, header)
     }
-    forms::batch_control(sums, header)
 }
 
 // Record 7 of the next addendum, which belongs to the last entry.
@@ -52,26 +52,19 @@ fn next_addendum(table: &[u8], c: Cursor) -> [u8; 94]
     requires { (c.last + 93 ≤ length table.now) × (c.text + 80 ≤ length table.now) }
     ensures { result ≡ addendum_from (last_at table.now c) (text_at table.now c) }
 {
-    let entry = c.last;
-    let at = c.text;
-    forms::addendum(&table[entry..entry + 93], &table[at..at + 80])
+    forms::addendum(text::chunk(table, c.last), text::chunk(table, c.text))
 }
 
 // The next record.
-pub fn form(table: &[u8], c: Cursor, st: State) -> [u8; 94]
-    requires { Inside table.now st.place c × Fair st }
-    ensures { result ≡ form_of table.now c st }
+pub fn form(table: &[u8], c: Cursor, st: &State) -> [u8; 94]
+    requires { Inside table.now st.now.place c × Fair st.now }
+    ensures { result ≡ form_of table.now c st.now }
 {
-    let place = st.place;
-    let sums = st.sums;
-    let header = st.header;
-    match place {
-        Place::Start => forms::file_header(&table[6..91]),
-        Place::FileOpen => next_batch(table, c, sums),
-        Place::BatchOpen => next_entry(table, c, sums, &header),
+    match st.place {
+        Place::Start => forms::file_header(text::chunk(table, 6)),
+        Place::FileOpen | Place::BatchDone => next_batch(table, c, st.sums),
+        Place::BatchOpen | Place::EntryDone => next_entry(table, c, st.sums, &st.header),
         Place::AddendumDue => next_addendum(table, c),
-        Place::EntryDone => next_entry(table, c, sums, &header),
-        Place::BatchDone => next_batch(table, c, sums),
         Place::FileDone => forms::filler(),
     }
 }
@@ -81,17 +74,15 @@ fn past_batch(table: &[u8], c: Cursor) -> Cursor
     requires { c.batch + 95 * c.batches ≤ length table.now }
     ensures { result ≡ past_batch table.now c }
 {
-    if 0 < c.batches {
-        return Cursor {
-            batches: c.batches - 1,
-            batch: c.batch + 95,
-            left: shape::count(table, c.batch + 89),
-            entry: c.entry,
-            last: c.last,
-            text: c.text,
-        };
+    if c.batches == 0 {
+        return c;
     }
-    c
+    Cursor {
+        batches: c.batches - 1,
+        batch: c.batch + 95,
+        left: shape::count(table, c.batch + 89),
+        ..c
+    }
 }
 
 // Behind a record 6: one entry less is left in its batch.
@@ -99,17 +90,15 @@ fn past_entry(table: &[u8], c: Cursor) -> Cursor
     requires { c.entry + 93 * c.left ≤ length table.now }
     ensures { result ≡ past_entry c }
 {
-    if 0 < c.left {
-        return Cursor {
-            batches: c.batches,
-            batch: c.batch,
-            left: c.left - 1,
-            entry: c.entry + 93,
-            last: c.entry,
-            text: c.text,
-        };
+    if c.left == 0 {
+        return c;
     }
-    c
+    Cursor {
+        left: c.left - 1,
+        entry: c.entry + 93,
+        last: c.entry,
+        ..c
+    }
 }
 
 // Behind a record 7.
@@ -117,9 +106,10 @@ fn past_text(table: &[u8], c: Cursor) -> Cursor
     requires { c.text + 80 ≤ length table.now }
     ensures { result ≡ past_text c }
 {
-    let mut next = c;
-    next.text = c.text + 80;
-    next
+    Cursor {
+        text: c.text + 80,
+        ..c
+    }
 }
 
 // The cursor behind the record that was formed at this place.
@@ -128,12 +118,9 @@ pub fn advance(table: &[u8], c: Cursor, place: Place) -> Cursor
     ensures { result ≡ past_of table.now c place }
 {
     match place {
-        Place::Start => c,
-        Place::FileOpen => past_batch(table, c),
-        Place::BatchOpen => past_entry(table, c),
+        Place::FileOpen | Place::BatchDone => past_batch(table, c),
+        Place::BatchOpen | Place::EntryDone => past_entry(table, c),
         Place::AddendumDue => past_text(table, c),
-        Place::EntryDone => past_entry(table, c),
-        Place::BatchDone => past_batch(table, c),
-        Place::FileDone => c,
+        Place::Start | Place::FileDone => c,
     }
 }

@@ -1,6 +1,6 @@
 -- Writing one thing behind the other, and the walk along a file's records that does so.
 -- Assumes nothing.
-use Prim.Native.Nat.{ℕ, ◌+◌, ◌≤◌}
+use Prim.Native.Nat.{ℕ, ◌+◌, ◌<◌, ◌≤◌}
 use native.Mathlib.Nat.{add-zero, add_assoc}
 use native.Mathlib.Omega.{arith}
 use mathlib.Core.Path.{◌≡◌, refl, sym, ap, ◌∙◌}
@@ -8,14 +8,14 @@ use mathlib.Core.Bool.{Bool, true, false}
 use mathlib.Core.List.{List, [], ◌∷◌, ◌++◌, map}
 use borrow.Author.Tests.{eq-eqb, ne_eqb}
 use lib.Dec.{eqb}
-use lib.ListN.{length, get_or, take, length-append, length-take}
+use lib.ListN.{length, get_or, take, length-append}
 use lib.Seq.{sets, length-sets}
 use Rattle.text.specs.Decimal.{pick, render}
 use Rattle.text.proofs.SetLaws.{sets_append}
 use Rattle.layout.specs.declared.Way.{Way}
 use Rattle.layout.specs.Ways.{record_bytes}
 use Rattle.check_record.specs.Record.{columns_in}
-use Rattle.check_record.proofs.Ways.{raw_from, columns_at, raw_next, raw_end, raw_whole, columns_of_lem}
+use Rattle.check_record.proofs.Ways.{raw_chunk, raw_none, some_bytes}
 use Rattle.table_read.specs.WorkPasses.{between, row_of, row_bytes, count_after, batch_piece, batch_bytes}
 use Rattle.table_read.specs.WorkPuts.{Puts, Room}
 
@@ -75,19 +75,20 @@ module _ {rest all was here : List ℕ} {start to : ℕ} (left : Left rest all w
         behind = rw p.behind (add_assoc to (length xs) (length more)) ∙ ap (λ n. to + n) (sym (length-append xs more) ∙ ap length (sym e)) ∙ left.behind;
       }
 
--- ---- the columns of the records from byte `at` on
+-- ---- the columns of the records that are left, a chunk off the front
 
-abbrev pub records_from : Way → List ℕ → ℕ → List (List ℕ)
-records_from way f at = map (take 94) (raw_from way f at)
+-- the turn of a pass: what it found left, the record that stands there with its line end, and the rest
+pub record Turn (way : Way) (found raw rest rec : List ℕ) : Type 0 where
+  pub parts : found ≡ raw ++ rest
+  pub long : length raw ≡ record_bytes way
+  pub cut : rec ≡ take 94 raw
 
-pub records_next : (way : Way) (f : List ℕ) (at : ℕ) → at + record_bytes way ≤ length f → records_from way f at ≡ columns_at f at ∷ records_from way f (at + record_bytes way)
-records_next way f at h = ap (map (take 94)) (raw_next way f at h) ∙ ap (λ r. r ∷ records_from way f (at + record_bytes way)) (columns_of_lem way f at)
+columns_next : {way : Way} {found raw rest rec : List ℕ} → Turn way found raw rest rec → columns_in way found ≡ rec ∷ columns_in way rest
+columns_next {way} {found} {raw} {rest} {rec} t =
+    rw (t.parts, t.cut) (ap (map (take 94)) (raw_chunk way raw rest t.long))
 
-pub records_end : (way : Way) (f : List ℕ) (at : ℕ) → length f ≤ at → records_from way f at ≡ []
-records_end way f at h = ap (map (take 94)) (raw_end way f at h)
-
-pub records_whole : (way : Way) (f : List ℕ) → records_from way f 0 ≡ columns_in way f
-records_whole way f = ap (map (take 94)) (raw_whole way f)
+columns_end : (way : Way) (rest : List ℕ) → length rest < record_bytes way → columns_in way rest ≡ []
+columns_end way rest h = ap (map (take 94)) (raw_none way rest h)
 
 -- ---- one record
 
@@ -122,55 +123,50 @@ module _ (r : List ℕ) (n : ℕ) where
 
 -- entries or addenda
 module _ (way : Way) (kind from end : ℕ) (f was : List ℕ) (start : ℕ) where
-  abbrev pub RowsLeft : List ℕ → ℕ → ℕ → Type 0
-  RowsLeft here to at = Left (row_bytes kind from end (records_from way f at)) (row_bytes kind from end (columns_in way f)) was here start to
+  abbrev pub RowsLeft : List ℕ → List ℕ → ℕ → Type 0
+  RowsLeft rest here to = Left (row_bytes kind from end (columns_in way rest)) (row_bytes kind from end (columns_in way f)) was here start to
 
-  pub rows_start : RowsLeft was start 0
-  rows_start = rw (records_whole way f) (left_start (row_bytes kind from end (columns_in way f)) was start)
-
-  pub rows_end : {here : List ℕ} {to at : ℕ} → RowsLeft here to at → length f ≤ at → Puts (row_bytes kind from end (columns_in way f)) was here start to
+  pub rows_end : (rest : List ℕ) {here : List ℕ} {to : ℕ} → RowsLeft rest here to → length rest < record_bytes way → Puts (row_bytes kind from end (columns_in way f)) was here start to
   unfolding row_bytes
-  rows_end {here} {to} {at} left h = left_end left (rw (records_end way f at h))
+  rows_end rest left h = left_end left (rw (columns_end way rest h))
 
-  module _ (at : ℕ) (room : at + record_bytes way ≤ length f) where
-    row_step : row_bytes kind from end (records_from way f at) ≡ row_of kind from end (columns_at f at) ++ row_bytes kind from end (records_from way f (at + record_bytes way))
+  module _ {found raw rest rec : List ℕ} (t : Turn way found raw rest rec) where
+    row_step : row_bytes kind from end (columns_in way found) ≡ row_of kind from end rec ++ row_bytes kind from end (columns_in way rest)
     unfolding row_bytes
-    row_step = rw (records_next way f at room)
+    row_step = rw (columns_next t)
 
-    module _ {here : List ℕ} {to : ℕ} (left : RowsLeft here to at) where
-      pub rows_room : Room (row_bytes kind from end (columns_in way f)) was start → Room (row_of kind from end (columns_at f at)) here to
-      rows_room h = left_room left (row_of kind from end (columns_at f at)) (row_bytes kind from end (records_from way f (at + record_bytes way))) row_step h
+    module _ {here : List ℕ} {to : ℕ} (left : RowsLeft found here to) where
+      pub rows_room : Room (row_bytes kind from end (columns_in way f)) was start → Room (row_of kind from end rec) here to
+      rows_room h = left_room left (row_of kind from end rec) (row_bytes kind from end (columns_in way rest)) row_step h
 
-      pub rows_next : {after : List ℕ} {next : ℕ} → Puts (row_of kind from end (columns_at f at)) here after to next → RowsLeft after next (at + record_bytes way)
-      rows_next {after} {next} p =
-          left_next left (row_of kind from end (columns_at f at)) (row_bytes kind from end (records_from way f (at + record_bytes way))) after next row_step p
+      pub rows_next : {after : List ℕ} {next : ℕ} → Puts (row_of kind from end rec) here after to next → RowsLeft rest after next
+      rows_next {after} {next} p = left_next left (row_of kind from end rec) (row_bytes kind from end (columns_in way rest)) after next row_step p
 
 -- batches, with the entries counted so far
 module _ (way : Way) (f was : List ℕ) (start : ℕ) where
-  abbrev pub BatchesLeft : ℕ → List ℕ → ℕ → ℕ → Type 0
-  BatchesLeft count here to at = Left (batch_bytes count (records_from way f at)) (batch_bytes 0 (columns_in way f)) was here start to
+  abbrev pub BatchesLeft : ℕ → List ℕ → List ℕ → ℕ → Type 0
+  BatchesLeft count rest here to = Left (batch_bytes count (columns_in way rest)) (batch_bytes 0 (columns_in way f)) was here start to
 
-  pub batches_start : BatchesLeft 0 was start 0
-  batches_start = rw (records_whole way f) (left_start (batch_bytes 0 (columns_in way f)) was start)
-
-  pub batches_end : (count : ℕ) {here : List ℕ} {to at : ℕ} → BatchesLeft count here to at → length f ≤ at → Puts (batch_bytes 0 (columns_in way f)) was here start to
+  pub batches_end : (count : ℕ) (rest : List ℕ) {here : List ℕ} {to : ℕ} → BatchesLeft count rest here to → length rest < record_bytes way → Puts (batch_bytes 0 (columns_in way f)) was here start to
   unfolding batch_bytes
-  batches_end count {here} {to} {at} left h = left_end left (rw (records_end way f at h))
+  batches_end count rest left h = left_end left (rw (columns_end way rest h))
 
-  module _ (at : ℕ) (room : at + record_bytes way ≤ length f) (count : ℕ) where
-    batch_step : batch_bytes count (records_from way f at) ≡ batch_piece (columns_at f at) count ++ batch_bytes (count_after (columns_at f at) count) (records_from way f (at + record_bytes way))
+  module _ {found raw rest rec : List ℕ} (t : Turn way found raw rest rec) (count : ℕ) where
+    batch_step : batch_bytes count (columns_in way found) ≡ batch_piece rec count ++ batch_bytes (count_after rec count) (columns_in way rest)
     unfolding batch_bytes
-    batch_step = rw (records_next way f at room)
+    batch_step = rw (columns_next t)
 
-    module _ {here : List ℕ} {to : ℕ} (left : BatchesLeft count here to at) where
-      pub batches_room : Room (batch_bytes 0 (columns_in way f)) was start → Room (batch_piece (columns_at f at) count) here to
-      batches_room h = left_room left (batch_piece (columns_at f at) count) (batch_bytes (count_after (columns_at f at) count) (records_from way f (at + record_bytes way))) batch_step h
+    module _ {here : List ℕ} {to : ℕ} (left : BatchesLeft count found here to) where
+      pub batches_room : Room (batch_bytes 0 (columns_in way f)) was start → Room (batch_piece rec count) here to
+      batches_room h = left_room left (batch_piece rec count) (batch_bytes (count_after rec count) (columns_in way rest)) batch_step h
 
-      pub batches_next : {after : List ℕ} {next : ℕ} → Puts (batch_piece (columns_at f at) count) here after to next
-          → BatchesLeft (count_after (columns_at f at) count) after next (at + record_bytes way)
+      pub batches_next : {after : List ℕ} {next : ℕ} → Puts (batch_piece rec count) here after to next → BatchesLeft (count_after rec count) rest after next
       batches_next {after} {next} p =
-          left_next left (batch_piece (columns_at f at) count) (batch_bytes (count_after (columns_at f at) count) (records_from way f (at + record_bytes way))) after next batch_step p
+          left_next left (batch_piece rec count) (batch_bytes (count_after rec count) (columns_in way rest)) after next batch_step p
 
--- the first record, as the code cuts it out
-pub first_long : (way : Way) (f : List ℕ) → record_bytes way ≤ length f → length (take 94 f) ≡ 94
-first_long way f h = simp length-take (omega arith)
+    -- the count stays below the bytes passed
+    pub count_under : (size : ℕ) → count + length found ≤ size → count < size
+    count_under size h = omega (arith, ap length t.parts, length-append raw rest, t.long, some_bytes way)
+
+    pub count_less : (size : ℕ) → count + length found ≤ size → count_after rec count + length rest ≤ size
+    count_less size h = omega (arith, count_small rec count, ap length t.parts, length-append raw rest, t.long, some_bytes way)

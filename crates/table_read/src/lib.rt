@@ -2,41 +2,22 @@
 #![tactic(auto)]
 
 ghost use Rattle.std.specs.Prelude.{◌≡◌};
+ghost use Rattle.layout.specs.Answers.{made_as};
 ghost use Rattle.view.specs.Outcome.{read_of};
 
-use layout::{Answer, Fault, Made, Way};
+use layout::{Answer, Fault, Refusal, Way};
 
 pub mod putting;
 
 // The pay table of a file that keeps the rules; the bytes past it stay.
-pub fn read(way: Way, file: &[u8], table: &mut [u8]) -> Made
-    ensures { (result ≡ (read_of way file.now table.old).gives) × (table.new ≡ (read_of way file.now table.old).leaves) }
+pub fn read(way: Way, file: &[u8], table: &mut [u8]) -> Answer<u64>
+    ensures { (made_as result ≡ (read_of way file.now table.old).gives) × (table.new ≡ (read_of way file.now table.old).leaves) }
 {
-    let checked = check_file::check(way, file);
-    let answer = checked.answer;
-    if let Answer::Refused(refusal) = answer {
-        return Made {
-            answer: Answer::Refused(refusal),
-            length: 0,
-        };
-    }
-    let size = 109 + 95 * checked.batches + 93 * checked.entries + 80 * checked.addenda;
+    let accepted = check_file::check(way, file)?;
+    let size = 109 + 95 * accepted.batches + 93 * accepted.entries + 80 * accepted.addenda;
     if (table.len() as u64) < size {
-        return Made {
-            answer: layout::refused(Fault::Room, 0, 0),
-            length: 0,
-        };
+        return Err(Refusal::whole(Fault::Room));
     }
-    putting::put_table(
-        way,
-        file,
-        checked.batches,
-        checked.entries,
-        checked.addenda,
-        table,
-    );
-    Made {
-        answer: Answer::Granted,
-        length: size,
-    }
+    putting::put_table(way, file, &accepted, table);
+    Ok(size)
 }

@@ -1,12 +1,12 @@
 // The pay table of a file's records, pass by pass, put into lent memory.
-ghost use Rattle.std.specs.Prelude.{◌%◌, ◌<◌, ◌≤◌, ◌≡◌, length};
+ghost use Rattle.std.specs.Prelude.{◌<◌, ◌≤◌, ◌≡◌, length};
 ghost use Rattle.text.specs.Decimal.{render};
 ghost use Rattle.layout.specs.Ways.{record_bytes};
 ghost use Rattle.check_record.specs.Record.{columns_in};
 ghost use Rattle.table_read.specs.WorkPasses.{between, row_of, row_bytes, count_after, batch_piece, batch_bytes, head_bytes, tail_bytes, whole_bytes};
 ghost use Rattle.table_read.specs.WorkPuts.{Puts, Room};
 
-use layout::Way;
+use layout::{Acceptance, Way};
 
 // Writes bytes `from` to `end` of a record at `to`, and gives the place behind them.
 pub fn put_part(rec: &[u8], from: usize, end: usize, table: &mut [u8], to: usize) -> usize
@@ -29,14 +29,15 @@ pub fn put_count(count: u64, table: &mut [u8], to: usize) -> usize
 }
 
 // Writes the part of a record that is of the kind asked for.
-fn put_row(rec: &[u8], kind: u8, from: usize, end: usize, table: &mut [u8], to: usize) -> usize
-    requires { (length rec.now ≡ 94) × (from ≤ end) × (end ≤ 94) × Room (row_of kind from end rec.now) table.old to }
+fn put_row(rec: &[u8; 94], kind: u8, from: usize, end: usize, table: &mut [u8], to: usize) -> usize
+    requires { (from ≤ end) × (end ≤ 94) × Room (row_of kind from end rec.now) table.old to }
     ensures { Puts (row_of kind from end rec.now) table.old table.new to result }
 {
     if rec[0] == kind {
-        return put_part(rec, from, end, table, to);
+        put_part(rec, from, end, table, to)
+    } else {
+        to
     }
-    to
 }
 
 // The pass for the entries or the addenda: one part of each record of their kind.
@@ -49,67 +50,61 @@ fn put_rows(
     table: &mut [u8],
     start: usize,
 ) -> usize
-    requires { (length file.now % record_bytes way ≡ 0) × (from ≤ end) × (end ≤ 94) × Room (row_bytes kind from end (columns_in way file.now)) table.old start }
+    requires { (from ≤ end) × (end ≤ 94) × Room (row_bytes kind from end (columns_in way file.now)) table.old start }
     ensures { Puts (row_bytes kind from end (columns_in way file.now)) table.old table.new start result }
 {
     let mut to = start;
-    let mut at = 0;
-    while at < file.len() {
-        to = put_row(&file[at..at + 94], kind, from, end, table, to);
-        at += layout::record_bytes(way);
+    for raw in file.chunks_exact(layout::record_bytes(way)) {
+        to = put_row(text::chunk(raw, 0), kind, from, end, table, to);
     }
     to
 }
 
 // The entries since the last record 5, behind this record.
-fn count_after(rec: &[u8], count: u64) -> u64
-    requires { (length rec.now ≡ 94) × (count < 96000000) }
+fn count_after(rec: &[u8; 94], count: u64) -> u64
+    requires { count < 96000000 }
     ensures { result ≡ count_after rec.now count }
 {
-    if rec[0] == b'5' {
-        return 0;
+    match rec[0] {
+        b'5' => 0,
+        b'6' => count + 1,
+        _ => count,
     }
-    if rec[0] == b'6' {
-        return count + 1;
-    }
-    count
 }
 
 // A batch's row stands where its record 5 is; its number of entries is known at its record 8.
-fn put_batch_piece(rec: &[u8], count: u64, table: &mut [u8], to: usize) -> usize
-    requires { (length rec.now ≡ 94) × Room (batch_piece rec.now count) table.old to }
+fn put_batch_piece(rec: &[u8; 94], count: u64, table: &mut [u8], to: usize) -> usize
+    requires { Room (batch_piece rec.now count) table.old to }
     ensures { Puts (batch_piece rec.now count) table.old table.new to result }
 {
-    if rec[0] == b'5' {
-        let behind = put_part(rec, 1, 75, table, to);
-        return put_part(rec, 79, 94, table, behind);
+    match rec[0] {
+        b'5' => {
+            let behind = put_part(rec, 1, 75, table, to);
+            put_part(rec, 79, 94, table, behind)
+        }
+        b'8' => put_count(count, table, to),
+        _ => to,
     }
-    if rec[0] == b'8' {
-        return put_count(count, table, to);
-    }
-    to
 }
 
 // The pass for the batches.
 fn put_batches(way: Way, file: &[u8], table: &mut [u8], start: usize) -> usize
-    requires { (length file.now % record_bytes way ≡ 0) × (length file.now ≤ 96000000) × Room (batch_bytes 0 (columns_in way file.now)) table.old start }
+    requires { (length file.now ≤ 96000000) × Room (batch_bytes 0 (columns_in way file.now)) table.old start }
     ensures { Puts (batch_bytes 0 (columns_in way file.now)) table.old table.new start result }
 {
     let mut to = start;
     let mut count = 0;
-    let mut at = 0;
-    while at < file.len() {
-        let rec = &file[at..at + 94];
+    for raw in file.chunks_exact(layout::record_bytes(way)) {
+        let rec = text::chunk(raw, 0);
         to = put_batch_piece(rec, count, table, to);
         count = count_after(rec, count);
-        at += layout::record_bytes(way);
     }
     to
 }
 
 // The file's row behind its count, and the number of batches.
-fn put_head(rec: &[u8], batches: u64, table: &mut [u8]) -> usize
-    requires { (length rec.now ≡ 94) × Room (head_bytes rec.now batches) table.old 0 }
+fn put_head(rec: &[u8; 94], batches: u64, table: &mut [u8]) -> usize
+    requires { Room (head_bytes rec.now batches) table.old 0 }
     ensures { Puts (head_bytes rec.now batches) table.old table.new 0 result }
 {
     let front = put_count(1, table, 0);
@@ -120,7 +115,7 @@ fn put_head(rec: &[u8], batches: u64, table: &mut [u8]) -> usize
 
 // The entries and the addenda, each behind their count.
 fn put_tail(way: Way, file: &[u8], entries: u64, addenda: u64, table: &mut [u8], to: usize) -> usize
-    requires { (length file.now % record_bytes way ≡ 0) × Room (tail_bytes entries addenda (columns_in way file.now)) table.old to }
+    requires { Room (tail_bytes entries addenda (columns_in way file.now)) table.old to }
     ensures { Puts (tail_bytes entries addenda (columns_in way file.now)) table.old table.new to result }
 {
     let rows = put_count(entries, table, to);
@@ -130,18 +125,11 @@ fn put_tail(way: Way, file: &[u8], entries: u64, addenda: u64, table: &mut [u8],
 }
 
 // The whole table, front to back.
-pub fn put_table(
-    way: Way,
-    file: &[u8],
-    batches: u64,
-    entries: u64,
-    addenda: u64,
-    table: &mut [u8],
-) -> usize
-    requires { (record_bytes way ≤ length file.now) × (length file.now % record_bytes way ≡ 0) × (length file.now ≤ 96000000) × Room (whole_bytes way file.now batches entries addenda) table.old 0 }
-    ensures { Puts (whole_bytes way file.now batches entries addenda) table.old table.new 0 result }
+pub fn put_table(way: Way, file: &[u8], counts: &Acceptance, table: &mut [u8]) -> usize
+    requires { (record_bytes way ≤ length file.now) × (length file.now ≤ 96000000) × Room (whole_bytes way file.now counts.now.batches counts.now.entries counts.now.addenda) table.old 0 }
+    ensures { Puts (whole_bytes way file.now counts.now.batches counts.now.entries counts.now.addenda) table.old table.new 0 result }
 {
-    let rows = put_head(&file[0..94], batches, table);
+    let rows = put_head(text::chunk(file, 0), counts.batches, table);
     let tail = put_batches(way, file, table, rows);
-    put_tail(way, file, entries, addenda, table, tail)
+    put_tail(way, file, counts.entries, counts.addenda, table, tail)
 }

@@ -1,27 +1,27 @@
 -- A pass over the formed file's records: where it begins, one turn of it, and where it ends.
 -- Assumes a table of right shape.
+use Rattle.std.specs.Prelude.{Result, Ok, Err, MatchResult, IsErrAnd}
 use Prim.Native.Nat.{ℕ, suc, ◌+◌, ◌*◌, ◌≤◌}
 use native.Mathlib.Nat.{zero-add}
 use native.Mathlib.Omega.{arith}
-use native.Mathlib.Numerals.{add-one}
 use mathlib.Core.Path.{◌≡◌, refl, sym, ap, ◌∙◌, subst}
 use mathlib.Core.Bool.{Bool, true, false, ◌&&◌}
 use mathlib.Core.List.{List, [], ◌∷◌, ◌++◌, map}
 use borrow.Author.Tests.{eqb-true}
 use lib.Dec.{eqb}
-use lib.ListN.{length, take, drop, set, replicate, length-append, length-drop, take-append-drop}
+use lib.ListN.{length, take, drop, replicate, length-append, length-drop, take-append-drop}
 use lib.Seq.{sets, sets-eq, length-sets, length-take-le}
 use Rattle.text.specs.Decimal.{digits}
 use Rattle.text.specs.Rows.{joined, rows}
 use Rattle.text.proofs.DecimalLaws.{and_both}
 use Rattle.text.proofs.RowLaws.{length_rows}
 use Rattle.text.proofs.SetLaws.{sets_append}
-use Rattle.layout.specs.declared.Answer.{Answer}
 use Rattle.layout.specs.declared.Fault.{Fault}
 use Rattle.layout.specs.Fields.{rows_of, first_field}
 use Rattle.check_order.specs.declared.Place.{Place}
 use Rattle.check_sums.specs.declared.State.{State}
-use Rattle.check_record.specs.declared.Verdict.{Verdict}
+use Rattle.check_record.specs.declared.Wrong.{Wrong}
+use Rattle.check_record.specs.Verdict.{Verdict, Stepped, stepped_as, wrong_of}
 use Rattle.check_order.specs.Order.{complete}
 use Rattle.check_sums.specs.Sums.{start, no_sums, add_record, tally}
 use Rattle.check_record.specs.Record.{fields_from, line_of, stepped, bare, record_of, run_from, refused, onward, checked_of}
@@ -157,14 +157,36 @@ checked_run t h m =
 
 -- ---- one turn
 
-passed_state : (v : Verdict) (next st : State) → (stepped v next st).verdict ≡ Verdict.Passed → (stepped v next st).state ≡ next
-passed_state Verdict.Passed next st e = refl
-passed_state (Verdict.Failed fault k) next st e = let z : ◌≡◌ {A = ℕ} 0 1 = cc e in absurd (omega arith)
+passed_state : (v : Verdict) (next st : State) → (stepped v next st).verdict ≡ Ok tt → (stepped v next st).state ≡ next
+passed_state (Ok _) next st e = refl
+passed_state (Err wrong) next st e = let z : ◌≡◌ {A = ℕ} 0 1 = cc e in absurd (omega arith)
 
-pub passed_on : (st : State) (r : List ℕ) → (record_of st (bare r)).verdict ≡ Verdict.Passed → (record_of st (bare r)).state ≡ tally st (line_of st r) r
+pub passed_on : (st : State) (r : List ℕ) → (record_of st (bare r)).verdict ≡ Ok tt → (record_of st (bare r)).state ≡ tally st (line_of st r) r
 passed_on st r e =
     let line = line_of st r in
     passed_state (fields_from (first_field line) (rows_of line) st.sums st.header r) (tally st line r) st e
+
+-- what a check that passed, or that failed, says of a record
+pub passed : (st next : State) (r : List ℕ) (x : Result State Wrong) → x ≡ Ok next → stepped_as st x ≡ record_of st (bare r)
+    → ((record_of st (bare r)).verdict ≡ Ok tt) × (next ≡ tally st (line_of st r) r)
+passed st next r x e s =
+    let all = sym (ap (stepped_as st) e) ∙ s in
+    let verdict = sym (ap (λ (y : Stepped). y.verdict) all) in
+    (verdict, ap (λ (y : Stepped). y.state) all ∙ passed_on st r verdict)
+
+pub failed : (st : State) (r : List ℕ) (x : Result State Wrong) (wrong : Wrong) → x ≡ Err wrong → stepped_as st x ≡ record_of st (bare r)
+    → (record_of st (bare r)).verdict ≡ Err wrong
+failed st r x wrong e s = sym (ap (λ (y : Stepped). y.verdict) (sym (ap (stepped_as st) e) ∙ s))
+
+-- a result whose error was made over: what was made over
+pub mapped_ok : {A E D : Type 0} (P : E → D → Type 0) (x : Result A E) (y : Result A D) (a : A) → MatchResult x (λ b. y ≡ Ok b) (λ e. IsErrAnd y (P e)) → y ≡ Ok a → x ≡ Ok a
+mapped_ok P (Ok b) y a h e = cc
+mapped_ok P (Err w) y a h e = absurd (rw e at h)
+
+pub mapped_err : {A E D : Type 0} (P : E → D → Type 0) (x : Result A E) (y : Result A D) (d : D) → MatchResult x (λ b. y ≡ Ok b) (λ e. IsErrAnd y (P e)) → y ≡ Err d
+    → (e : E) × (x ≡ Err e) × P e d
+mapped_err P (Ok b) y d h e = cc
+mapped_err P (Err w) y d h e = (w, refl, rw e at h)
 
 -- r is formed at the cursor c in the state st, and passes: next is the state behind it, and c' the cursor
 pub record Step (t : List ℕ) (c : Cursor) (st : State) (r : List ℕ) (next : State) (c' : Cursor) : Type 0 where
@@ -189,7 +211,7 @@ module _ (t : List ℕ) (c : Cursor) (st : State) (l : length st.header ≡ 94) 
       let u = turn t c st l d i in
       omega (arith, ap length e, ap (λ rs. length (joined (map (closed_by way) rs))) u.form, length-append (closed_by way (form_of t c st)) (joined (map (closed_by way) u.rest)), length-append (form_of t c st) (end_of way))
 
-  step_on : (record_of st (bare (form_of t c st))).verdict ≡ Verdict.Passed
+  step_on : (record_of st (bare (form_of t c st))).verdict ≡ Ok tt
       → Step t c st (form_of t c st) (tally st (line_of st (form_of t c st)) (form_of t c st)) (past_of t c st.place)
   unfolding run_from joined
   step_on p =
@@ -211,28 +233,28 @@ module _ (t : List ℕ) (c : Cursor) (st : State) (l : length st.header ≡ 94) 
       }
 
   -- as the code makes them
-  pub step_by_lem : (r : List ℕ) (next : State) (c' : Cursor) → r ≡ form_of t c st → (record_of st (bare r)).verdict ≡ Verdict.Passed
+  pub step_by_lem : (r : List ℕ) (next : State) (c' : Cursor) → r ≡ form_of t c st → (record_of st (bare r)).verdict ≡ Ok tt
       → next ≡ tally st (line_of st r) r → c' ≡ past_of t c st.place → Step t c st r next c'
   step_by_lem r next c' e p f g =
       let a = subst (λ x. Step t c st x (tally st (line_of st x) x) (past_of t c st.place)) (sym e)
-      (step_on (subst (λ x. (record_of st (bare x)).verdict ≡ Verdict.Passed) e p)) in
+      (step_on (subst (λ x. (record_of st (bare x)).verdict ≡ Ok tt) e p)) in
       subst (λ x. Step t c st r next x) (sym g) (subst (λ x. Step t c st r x (past_of t c st.place)) (sym f) a)
 
   -- a record that fails is the answer
-  pub run_refused : (r : List ℕ) (fault : Fault) (k : ℕ) → r ≡ form_of t c st → (record_of st (bare r)).verdict ≡ Verdict.Failed fault k
+  pub run_refused : (r : List ℕ) (fault : Fault) (k : ℕ) → r ≡ form_of t c st → (record_of st (bare r)).verdict ≡ Err (wrong_of fault k)
       → bare_run st (todo t c st) ≡ refused fault (st.sums.records + 1) k
   unfolding run_from
   run_refused r fault k e f =
       ap (bare_run st) (turn t c st l d i).form
-      ∙ ap (λ v. onward v (st.sums.records + 1) (bare_run (record_of st (bare (form_of t c st))).state (turn t c st l d i).rest)) (subst (λ x. (record_of st (bare x)).verdict ≡ Verdict.Failed fault k) e f)
+      ∙ ap (λ v. onward v (st.sums.records + 1) (bare_run (record_of st (bare (form_of t c st))).state (turn t c st l d i).rest)) (subst (λ x. (record_of st (bare x)).verdict ≡ Err (wrong_of fault k)) e f)
 
   -- where the whole is granted, the record passes
-  pub granted_passes : (r : List ℕ) → r ≡ form_of t c st → (bare_run st (todo t c st)).answer ≡ Answer.Granted → (record_of st (bare r)).verdict ≡ Verdict.Passed
+  pub granted_passes : (r : List ℕ) → r ≡ form_of t c st → (bare_run st (todo t c st)).answer ≡ Ok tt → (record_of st (bare r)).verdict ≡ Ok tt
   granted_passes r e a = go (record_of st (bare r)).verdict refl
     where
-      go : (v : Verdict) → (record_of st (bare r)).verdict ≡ v → v ≡ Verdict.Passed
-      go Verdict.Passed f = refl
-      go (Verdict.Failed fault k) f = refused_not fault (st.sums.records + 1) k (ap (λ x. x.answer) (sym (run_refused r fault k e f)) ∙ a)
+      go : (v : Verdict) → (record_of st (bare r)).verdict ≡ v → v ≡ Ok tt
+      go (Ok _) f = refl
+      go (Err wrong) f = refused_not wrong.fault (st.sums.records + 1) wrong.field (ap (λ x. x.answer) (sym (run_refused r wrong.fault wrong.field e f)) ∙ a)
 
 -- ---- the end
 
@@ -251,7 +273,7 @@ none_left t c st e = go st.place e
     go Place.BatchDone d = never d
     go Place.FileDone d = ap (λ n. replicate n filler_record) (fillers_none st.sums.records d)
 
-pub run_granted : (t : List ℕ) (c : Cursor) (st : State) → complete st.place st.sums.records ≡ true → (bare_run st (todo t c st)).answer ≡ Answer.Granted
+pub run_granted : (t : List ℕ) (c : Cursor) (st : State) → complete st.place st.sums.records ≡ true → (bare_run st (todo t c st)).answer ≡ Ok tt
 unfolding run_from
 run_granted t c st e = ap (λ rs. (bare_run st rs).answer) (none_left t c st e) ∙ rw e refl
 
@@ -301,16 +323,6 @@ left_on {whole} {file₀} {file} {at} {more} part rest n e l s =
       makes = rw (← l) (sym (sets_append file at part rest)) ∙ ap (sets file at) (sym e) ∙ s.makes;
       fits = s.fits;
     }
-
--- the line end, as the code writes it
-pub plain_end : (way : Way) (file : List ℕ) (at : ℕ) → way ≡ Way.Plain → file ≡ sets file at (end_of way)
-plain_end way file at e = rw e refl
-
-pub lined_room : (way : Way) (at n : ℕ) → way ≡ Way.Lined → at + length (end_of way) ≤ n → at + 2 ≤ n
-lined_room way at n e h = subst (λ w. at + length (end_of w) ≤ n) e h
-
-pub lined_end : (way : Way) (file : List ℕ) (at : ℕ) → way ≡ Way.Lined → set (set file at 13) (at + 1) 10 ≡ sets file at (end_of way)
-lined_end way file at e = rw (e, add-one at) refl
 
 -- a record is written, and its line end behind it
 pub left_closed : {whole file₀ file : List ℕ} {at : ℕ} (way : Way) (rs : List (List ℕ)) (r : List ℕ) (rest : List (List ℕ)) → rs ≡ r ∷ rest → length r ≡ 94

@@ -1,5 +1,6 @@
 -- What writing answers, test by test, and what it gives and leaves for each answer.
 -- Assumes nothing.
+use Rattle.std.specs.Prelude.{Ok, Err}
 use Prim.Native.Nat.{ℕ, ◌*◌, ◌<◌, ◌≤◌}
 use native.Mathlib.Omega.{arith}
 use mathlib.Core.Path.{◌≡◌, refl, sym, ap, ◌∙◌, subst}
@@ -8,9 +9,9 @@ use mathlib.Core.List.{List, ◌++◌}
 use borrow.Author.Tests.{le-leb, lt-leb, leb-true, leb-false}
 use lib.Dec.{leb}
 use lib.ListN.{length, drop}
-use Rattle.layout.specs.declared.Answer.{Answer}
+use Rattle.layout.specs.Answers.{Answer}
 use Rattle.layout.specs.declared.Fault.{Fault}
-use Rattle.layout.specs.declared.Made.{Made}
+use Rattle.layout.specs.Answers.{Made}
 use Rattle.layout.specs.declared.Refusal.{Refusal}
 use Rattle.check_record.specs.Record.{checked_of}
 use Rattle.view.specs.View.{records_of}
@@ -48,11 +49,11 @@ module _ (t : List ℕ) where
     too_many m = sym (many_refused m) ∙ shape_passed
 
 -- a table that passes has the right shape, passes the check, and has not too many records
-module _ (t : List ℕ) (g : writable t ≡ Answer.Granted) where
+module _ (t : List ℕ) (g : writable t ≡ Ok tt) where
   pub shape_right : shaped t ≡ true
   shape_right = (demand_granted (shaped t) _ _ g).0
 
-  pub file_right : (checked_of Way.Plain (formed Way.Plain t)).answer ≡ Answer.Granted
+  pub file_right : (checked_of Way.Plain (formed Way.Plain t)).answer ≡ Ok tt
   file_right = (demand_granted (shaped t) _ _ g).1
 
   pub not_many : length (records_of (view_of_table t)) ≤ 1000000
@@ -72,27 +73,27 @@ module _ (judged : Answer) (result lent : List ℕ) where
   abbrev pub judged_first : Outcome Made
   judged_first = made (and_then judged (room result lent)) result lent
 
-  refused_gives : (r : Refusal) → and_then judged (room result lent) ≡ Answer.Refused r → Gives judged_first (record { answer = Answer.Refused r; length = 0 }) lent
+  refused_gives : (r : Refusal) → and_then judged (room result lent) ≡ Err r → Gives judged_first (record { answer = Err r; length = 0 }) lent
   refused_gives r e =
       let same = ap (λ a. made a result lent) e in
       (sym (ap (λ o. o.gives) same), sym (ap (λ o. o.leaves) same))
 
-  pub judged_refused : (r : Refusal) → judged ≡ Answer.Refused r → Gives judged_first (record { answer = Answer.Refused r; length = 0 }) lent
+  pub judged_refused : (r : Refusal) → judged ≡ Err r → Gives judged_first (record { answer = Err r; length = 0 }) lent
   judged_refused r e = refused_gives r (ap (λ a. and_then a (room result lent)) e)
 
-  module _ (g : judged ≡ Answer.Granted) where
+  module _ (g : judged ≡ Ok tt) where
     left_to_room : and_then judged (room result lent) ≡ room result lent
     left_to_room = ap (λ a. and_then a (room result lent)) g
 
     pub no_room : length lent < length result → Gives judged_first (record { answer = refusal Fault.Room 0 0; length = 0 }) lent
-    no_room m = refused_gives _ (left_to_room ∙ ap (λ b. demand b (refusal Fault.Room 0 0) Answer.Granted) (lt-leb (length result) (length lent) m))
+    no_room m = refused_gives _ (left_to_room ∙ ap (λ b. demand b (refusal Fault.Room 0 0) (Ok tt)) (lt-leb (length result) (length lent) m))
 
     pub granted : (size : ℕ) (bytes : List ℕ) → size ≡ length result → length result ≤ length lent → bytes ≡ result ++ drop (length result) lent
-        → Gives judged_first (record { answer = Answer.Granted; length = size }) bytes
+        → Gives judged_first (record { answer = Ok tt; length = size }) bytes
     granted size bytes e m k =
-        let all = left_to_room ∙ ap (λ b. demand b (refusal Fault.Room 0 0) Answer.Granted) (le-leb (length result) (length lent) m) in
+        let all = left_to_room ∙ ap (λ b. demand b (refusal Fault.Room 0 0) (Ok tt)) (le-leb (length result) (length lent) m) in
         let same = ap (λ a. made a result lent) all in
-        (ap (λ n. record { answer = Answer.Granted; length = n }) e ∙ sym (ap (λ o. o.gives) same), k ∙ sym (ap (λ o. o.leaves) same))
+        (ap (λ n. record { answer = Ok tt; length = n }) e ∙ sym (ap (λ o. o.gives) same), k ∙ sym (ap (λ o. o.leaves) same))
 
 -- ---- writing does so
 
@@ -115,5 +116,5 @@ module _ (way : Way) (t f : List ℕ) where
   write_gives {m} {file} h = subst (λ a. Gives (made a (formed way t) f) m file) (sym answer_judged) h
 
   -- the formed file's length
-  pub formed_length : writable t ≡ Answer.Granted → length (formed way t) ≡ record_bytes way * length (records_of (view_of_table t))
+  pub formed_length : writable t ≡ Ok tt → length (formed way t) ≡ record_bytes way * length (records_of (view_of_table t))
   formed_length g = file_length way (view_of_table t) (shaped_sized t (shape_right t g))

@@ -1,7 +1,7 @@
 -- What writing says to a table before it asks for room.
 use Rattle.std.specs.Prelude.{List, ℕ}
 use Rattle.layout.specs.declared.Fault.{Fault}
-use Rattle.layout.specs.declared.Answer.{Answer}
+use Rattle.layout.specs.Answers.{Answer}
 use Rattle.layout.specs.declared.Way.{Way}
 use Rattle.check_record.specs.Record.{checked_of}
 use Rattle.view.specs.Table.{shaped, formed}

@@ -3,12 +3,13 @@
 #![tactic(auto)]
 
 ghost use Rattle.std.specs.Prelude.{◌≤◌, ◌≡◌, true, length};
+ghost use Rattle.layout.specs.Answers.{made_as};
 ghost use Rattle.view.specs.View.{records_of};
 ghost use Rattle.view.specs.Table.{shaped, view_of_table};
 ghost use Rattle.view.specs.Outcome.{write_of};
 ghost use Rattle.table_write.specs.Judge.{writable};
 
-use layout::{Answer, Fault, Made, Way};
+use layout::{Answer, Fault, Refusal, Way};
 use table_form::shape;
 
 pub mod passing;
@@ -19,44 +20,32 @@ fn records_in(table: &[u8]) -> usize
     ensures { (result ≡ length (records_of (view_of_table table.now))) × (result ≤ 5000000) }
 {
     let s = shape::sections(table);
-    let n = 2 + 2 * s.batches + s.entries + s.addenda;
-    n + (10 - n % 10) % 10
+    (2 + 2 * s.batches + s.entries + s.addenda).next_multiple_of(10)
 }
 
 // What writing says to a table before it asks for room: the shape's refusal, then those of the formed file.
-pub fn judge(table: &[u8]) -> Answer
+pub fn judge(table: &[u8]) -> Answer<()>
     ensures { result ≡ writable table.now }
 {
     if !shape::shaped(table) {
-        return layout::refused(Fault::Shape, 0, 0);
+        return Err(Refusal::whole(Fault::Shape));
     }
     if 1_000_000 < records_in(table) {
-        return layout::refused(Fault::Length, 0, 0);
+        return Err(Refusal::whole(Fault::Length));
     }
     passing::judged(table)
 }
 
 // Forms the table's file in front of the lent bytes. A refusal leaves them as they are: the shape's comes first, then those of the
 // formed file, then that of the room.
-pub fn write(way: Way, table: &[u8], file: &mut [u8]) -> Made
-    ensures { (result ≡ (write_of way table.now file.old).gives) × (file.new ≡ (write_of way table.now file.old).leaves) }
+pub fn write(way: Way, table: &[u8], file: &mut [u8]) -> Answer<u64>
+    ensures { (made_as result ≡ (write_of way table.now file.old).gives) × (file.new ≡ (write_of way table.now file.old).leaves) }
 {
-    if let Answer::Refused(refusal) = judge(table) {
-        return Made {
-            answer: Answer::Refused(refusal),
-            length: 0,
-        };
-    }
+    judge(table)?;
     let size = layout::record_bytes(way) * records_in(table);
     if file.len() < size {
-        return Made {
-            answer: layout::refused(Fault::Room, 0, 0),
-            length: 0,
-        };
+        return Err(Refusal::whole(Fault::Room));
     }
     passing::put_formed(way, table, file);
-    Made {
-        answer: Answer::Granted,
-        length: size as u64,
-    }
+    Ok(size as u64)
 }

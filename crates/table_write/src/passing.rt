@@ -1,7 +1,6 @@
 // The two passes over the records of the formed file: the first only checks them, the second writes them.
 ghost use Rattle.std.specs.Prelude.{◌+◌, ◌≤◌, ◌≡◌, true, ◌++◌, length, drop};
 ghost use Rattle.std.proofs.lemmas.List.Edits.{sets};
-ghost use Rattle.layout.specs.declared.Answer.{Answer};
 ghost use Rattle.layout.specs.declared.Way.{Way};
 ghost use Rattle.layout.specs.Ways.{end_of};
 ghost use Rattle.check_record.specs.Record.{checked_of};
@@ -11,8 +10,9 @@ ghost use Rattle.layout.specs.Paper.{refusal};
 ghost use Rattle.table_form.specs.WorkSections.{size_by};
 ghost use Rattle.table_form.specs.WorkWalking.{first_of};
 
-use check_record::{Verdict, step};
-use layout::{Answer, Fault, Way};
+use check_digit::GroupSums;
+use check_record::step;
+use layout::{Answer, Fault, Refusal, Way};
 use table_form::walking::Cursor;
 use table_form::{shape, walking};
 
@@ -33,29 +33,22 @@ fn opened(table: &[u8]) -> Cursor
 }
 
 // What the check of the formed file answers, in either way: the line ends of a formed file are right. Nothing is written.
-pub fn judged(table: &[u8]) -> Answer
+pub fn judged(table: &[u8]) -> Answer<()>
     requires { (shaped table.now ≡ true) × (length (records_of (view_of_table table.now)) ≤ 1000000) }
     ensures { result ≡ (checked_of Way.Plain (formed Way.Plain table.now)).answer }
 {
-    let groups = check_digit::table();
+    let groups = GroupSums::new();
     let mut c = opened(table);
     let mut st = check_sums::start();
-    loop {
-        let place = st.place;
-        let sums = st.sums;
-        if check_order::complete(place, sums.records) {
-            return Answer::Granted;
-        }
-        let rec = walking::form(table, c, st);
+    while !check_order::complete(st.place, st.sums.records) {
+        let rec = walking::form(table, c, &st);
+        let number = st.sums.records + 1;
         let tried = step::check(&groups, st, &rec);
-        let verdict = tried.verdict;
-        if let Verdict::Failed(fault, k) = verdict {
-            return layout::refused(fault, sums.records + 1, k);
-        }
-        c = walking::advance(table, c, place);
-        let next = tried.state;
+        let next = tried.map_err(|wrong| Refusal::at(wrong.fault, number, wrong.field))?;
+        c = walking::advance(table, c, st.place);
         st = next;
     }
+    Ok(())
 }
 
 // Puts the line end of the way behind a record.
@@ -65,33 +58,25 @@ pub fn end_line(way: Way, file: &mut [u8], at: usize)
 {
     match way {
         Way::Plain => {}
-        Way::Lined => {
-            file[at] = b'\r';
-            file[at + 1] = b'\n';
-        }
+        Way::Lined => text::copy_into(file, at, b"\r\n"),
     }
 }
 
 // Writes the formed file, which is granted, to the front of a file with room for it.
 pub fn put_formed(way: Way, table: &[u8], file: &mut [u8])
-    requires { (shaped table.now ≡ true) × (length (records_of (view_of_table table.now)) ≤ 1000000) × ((checked_of Way.Plain (formed Way.Plain table.now)).answer ≡ Answer.Granted) × (length (formed way table.now) ≤ length file.old) }
+    requires { (shaped table.now ≡ true) × (length (records_of (view_of_table table.now)) ≤ 1000000) × ((checked_of Way.Plain (formed Way.Plain table.now)).answer ≡ Ok tt) × (length (formed way table.now) ≤ length file.old) }
     ensures { file.new ≡ formed way table.now ++ drop (length (formed way table.now)) file.old }
 {
     let mut c = opened(table);
     let mut st = check_sums::start();
     let mut at = 0;
-    loop {
-        let place = st.place;
-        let sums = st.sums;
-        if check_order::complete(place, sums.records) {
-            return;
-        }
-        let rec = walking::form(table, c, st);
+    while !check_order::complete(st.place, st.sums.records) {
+        let rec = walking::form(table, c, &st);
         text::copy_into(file, at, &rec);
         end_line(way, file, at + 94);
-        let line = check_order::line_at(place, sums.records, rec[0]);
-        c = walking::advance(table, c, place);
-        st = check_sums::tally(st, line, &rec);
         at += layout::record_bytes(way);
+        let line = check_order::line_at(st.place, st.sums.records, rec[0]);
+        c = walking::advance(table, c, st.place);
+        st = check_sums::tally(st, line, &rec);
     }
 }

@@ -2,10 +2,10 @@
 -- Assumes nothing.
 use mathlib.Core.Path.{◌≡◌, refl, sym, ap, ◌∙◌}
 use mathlib.Core.Logic.{◌↔◌}
-use mathlib.Core.Bool.{Bool, true, false, ◌&&◌, and-true, and_assoc}
+use mathlib.Core.Bool.{Bool, true, false, ◌&&◌, and_assoc}
 use mathlib.Core.List.{List, [], ◌∷◌, ◌++◌}
 use Prim.Native.Nat.{ℕ, zero, suc, ◌+◌, ◌-◌, ◌*◌, ◌/◌, ◌%◌, ◌^◌, ◌≤◌, ◌<◌, zero-le, suc-le-suc}
-use native.Mathlib.Nat.{pow-suc, one-le-pow, le_refl, le_of_suc-le-suc, mod-lt, mod-eq_of_lt, mod-one, add-mul, mul_assoc, mul_comm, mul_right_comm, zero-add, suc_inj}
+use native.Mathlib.Nat.{pow-suc, pow-le-pow_right, one-le-pow, le_refl, le_of_suc-le-suc, mod-lt, mod-eq_of_lt, mod-one, add-mul, mul_assoc, mul_comm, mul_right_comm, zero-add, suc_inj}
 use native.Mathlib.Numerals.{add-one, sub-one}
 use native.Mathlib.Omega.{arith}
 use borrow.Author.Tests.{leb-true, le-leb, eqb-true, eq-eqb}
@@ -13,6 +13,9 @@ use lib.Arith.{digits_lt, digits_div, digits_mod, mod-mul}
 use lib.Dec.{eqb, leb, lit<}
 use lib.ListN.{length, take, drop, get_or, set, length-append, take-append-drop, drop_of_length-le}
 use lib.Seq.{drop-cons, append_snoc, get_or-set_same, drop-set-lt, lt-length-set}
+use lib.Pointwise.{pointwise}
+use Rattle.std.specs.List.{list_all}
+use Rattle.std.proofs.lemmas.List.{take_more, take_all, length-take-le}
 use Rattle.text.specs.Decimal.{every, is_digit, digits, digit_of, value_from, value, render}
 use Rattle.text.specs.Same.{same_bytes}
 
@@ -45,11 +48,6 @@ every_take p n xs e = (and_both (every p (take n xs)) (every p (drop n xs)) (sym
 pub every_drop : (p : ℕ → Bool) (n : ℕ) (xs : List ℕ) → every p xs ≡ true → every p (drop n xs) ≡ true
 every_drop p n xs e = (and_both (every p (take n xs)) (every p (drop n xs)) (sym (every_cut p n xs) ∙ e)).1
 
--- one byte less at the front
-pub every_next : (p : ℕ → Bool) (xs : List ℕ) (i : ℕ) → i < length xs → every p (drop i xs) ≡ p (get_or xs i 0) && every p (drop (i + 1) xs)
-unfolding every
-every_next p xs i h = rw (add-one, drop-cons xs i 0)
-
 -- every byte passes, by its place
 pub every_at : (p : ℕ → Bool) (xs : List ℕ) → every p xs ≡ true → (k : ℕ) → k < length xs → p (get_or xs k 0) ≡ true
 unfolding every
@@ -63,17 +61,25 @@ unfolding every
 every_from p [] f = refl
 every_from p (x ∷ xs) f = both_and (f zero (suc-le-suc zero-le)) (every_from p xs (λ k h. f (suc k) (suc-le-suc h)))
 
--- a turn of a loop that goes up and gathers the tests
-pub every_turn : (p : ℕ → Bool) (xs : List ℕ) (i : ℕ) (all : Bool) → i < length xs
-    → (all && every p (drop i xs)) ≡ every p xs → (all && p (get_or xs i 0) && every p (drop (i + 1) xs)) ≡ every p xs
-every_turn p xs i all h e = and_assoc all (p (get_or xs i 0)) (every p (drop (i + 1) xs)) ∙ rw (every_next p xs i h) at e
-
--- the end of that loop: nothing is left
-pub every_end : (p : ℕ → Bool) (xs : List ℕ) (i : ℕ) (all : Bool) → length xs ≤ i → (all && every p (drop i xs)) ≡ every p xs → all ≡ every p xs
+-- as the library's word has it
+pub every_is : (p : ℕ → Bool) (xs : List ℕ) → every p xs ≡ list_all p xs
 unfolding every
-every_end p xs i all h e = sym (and-true all) ∙ rw (drop_of_length-le xs h) at e
+every_is p [] = refl
+every_is p (x ∷ xs) = ap (λ b. p x && b) (every_is p xs)
+
+-- the test of the first i bytes is that of all, once i is the length
+pub every_whole : (p : ℕ → Bool) (xs : List ℕ) (i : ℕ) → length xs ≤ i → list_all p (take i xs) ≡ every p xs
+every_whole p xs i h = rw take_all (sym (every_is p xs))
 
 -- ---- equal slices
+
+-- as the library's word has it
+pub same_is : (xs ys : List ℕ) → same_bytes xs ys ≡ pointwise eqb xs ys
+unfolding same_bytes
+same_is [] [] = refl
+same_is [] (y ∷ ys) = refl
+same_is (x ∷ xs) [] = refl
+same_is (x ∷ xs) (y ∷ ys) = ap (λ b. eqb x y && b) (same_is xs ys)
 
 -- the test finds the slices equal exactly if they are
 pub same_equal : (xs ys : List ℕ) → (same_bytes xs ys ≡ true) ↔ (xs ≡ ys)
@@ -99,25 +105,6 @@ same_length xs ys h = go (same_bytes xs ys) refl
     go : (t : Bool) → same_bytes xs ys ≡ t → t ≡ false
     go true e = absurd (h (ap length ((same_equal xs ys).0 e)))
     go false e = refl
-
--- one byte less at the front
-pub same_next : (xs ys : List ℕ) (i : ℕ) → i < length xs → i < length ys
-    → same_bytes (drop i xs) (drop i ys) ≡ eqb (get_or xs i 0) (get_or ys i 0) && same_bytes (drop (i + 1) xs) (drop (i + 1) ys)
-unfolding same_bytes
-same_next xs ys i h k = rw (add-one, drop-cons xs i 0, drop-cons ys i 0)
-
--- a turn of a loop that goes up and gathers the tests
-pub same_turn : (xs ys : List ℕ) (i : ℕ) (all : Bool) → i < length xs → i < length ys
-    → (all && same_bytes (drop i xs) (drop i ys)) ≡ same_bytes xs ys
-    → (all && eqb (get_or xs i 0) (get_or ys i 0) && same_bytes (drop (i + 1) xs) (drop (i + 1) ys)) ≡ same_bytes xs ys
-same_turn xs ys i all h k e =
-    and_assoc all (eqb (get_or xs i 0) (get_or ys i 0)) (same_bytes (drop (i + 1) xs) (drop (i + 1) ys)) ∙ rw (same_next xs ys i h k) at e
-
--- the end of that loop: nothing is left
-pub same_end : (xs ys : List ℕ) (i : ℕ) (all : Bool) → length xs ≤ i → length ys ≤ i
-    → (all && same_bytes (drop i xs) (drop i ys)) ≡ same_bytes xs ys → all ≡ same_bytes xs ys
-unfolding same_bytes
-same_end xs ys i all h k e = sym (and-true all) ∙ rw (drop_of_length-le xs h, drop_of_length-le ys k) at e
 
 -- ---- digits
 
@@ -158,6 +145,10 @@ pub value_snoc : (n : ℕ) (xs : List ℕ) (b : ℕ) → value_from n (xs ++ b �
 unfolding value_from
 value_snoc n xs b = value_append n xs (b ∷ [])
 
+-- one digit more of a list
+pub value_more : (xs : List ℕ) (i : ℕ) → i < length xs → value (take (i + 1) xs) ≡ value (take i xs) * 10 + digit_of (get_or xs i 0)
+value_more xs i h = ap value (take_more xs i 0 h) ∙ value_snoc 0 (take i xs) (get_or xs i 0)
+
 -- with one digit less at the front
 pub value_next : (n : ℕ) (xs : List ℕ) (i : ℕ) → i < length xs → value_from n (drop i xs) ≡ value_from (n * 10 + digit_of (get_or xs i 0)) (drop (i + 1) xs)
 unfolding value_from
@@ -189,9 +180,11 @@ unfolding value_from
 value_lt [] = lit< tt
 value_lt (x ∷ xs) = rw (value_cons x xs, pow-suc, mul_comm (10 ^ length xs) 10) (digits_lt (digit_of_lt x) (value_lt xs))
 
--- one digit more at the end
-pub digits_more : (n d i : ℕ) → n < 10 ^ i → d < 10 → n * 10 + d < 10 ^ (i + 1)
-digits_more n d i h k = rw (add-one, pow-suc) (omega arith)
+-- fewer than eighteen digits leave room for one more
+pub value_room : (xs : List ℕ) (i : ℕ) → i < length xs → length xs ≤ 18 → value (take i xs) * 10 + 9 < 2 ^ 64
+value_room xs i h k =
+    let le : i ≤ 17 = omega arith in
+    omega (arith, rw (length-take-le i xs (omega arith)) at (value_lt (take i xs)), pow-le-pow_right {n = 10} (lit< tt) le)
 
 -- a front and a back are read off a number
 apart : (a b v w k : ℕ) → v < k → w < k → a * k + v ≡ b * k + w → (a ≡ b) × (v ≡ w)

@@ -1,23 +1,18 @@
 -- Laws of bytes set in place, and of bytes set inside one of many rows.
 -- Assumes nothing.
-use mathlib.Core.Path.{◌≡◌, refl, ap, ◌∙◌}
+use mathlib.Core.Path.{◌≡◌, refl, sym, ap, ◌∙◌}
 use mathlib.Core.List.{List, [], ◌∷◌, ◌++◌, append_assoc, append-nil}
 use Prim.Native.Nat.{ℕ, zero, suc, ◌+◌, ◌-◌, ◌*◌, ◌≤◌, ◌<◌}
 use native.Mathlib.Nat.{add-zero, zero-add, add-suc, suc-add, mul-zero, mul-suc, le_refl, le_of_suc-le-suc}
-use native.Mathlib.Numerals.{add-one}
 use native.Mathlib.Omega.{arith}
+use borrow.Rule.Slice.PartMut.{put_mid}
 use lib.ListN.{length, take, drop, get_or, set, length-set, length-drop}
-use lib.Seq.{sets, length-sets, sets-eq, drop-cons, drop-drop, drop-length, take-nil, drop-nil, drop_at, take-length, take-append-le, drop-append-le, length-take-le, set-append_left, take-set-le, drop-set-lt, drop-set-add, get_or-take, get_or-drop}
+use lib.Seq.{sets, length-sets, sets-eq, drop-drop, drop-length, take-nil, drop-nil, drop_at, take-length, take-append-le, drop-append-le, length-take-le, set-append_left, take-set-le, drop-set-lt, drop-set-add, get_or-take, get_or-drop}
 use Rattle.text.specs.Patch.{patch}
 use Rattle.text.specs.Rows.{joined}
 use Rattle.text.specs.Widths.{AllLong}
 
 module _ {ℓ} {A : Type ℓ} where
-  -- a loop that stores: one store, and the run from the next place on
-  pub sets_next : (l vs : List A) (at i : ℕ) (d : A) → i < length vs
-      → sets (set l (at + i) (get_or vs i d)) (at + (i + 1)) (drop (i + 1) vs) ≡ sets l (at + i) (drop i vs)
-  sets_next l vs at i d h = rw (add-one, add-suc, drop-cons vs i d)
-
   -- two runs, one behind the other
   pub sets_append : (l : List A) (i : ℕ) (xs ys : List A) → sets l i (xs ++ ys) ≡ sets (sets l i xs) (i + length xs) ys
   sets_append l i [] ys = rw add-zero
@@ -132,3 +127,7 @@ pub drop_take : {A : Type 0} (m n : ℕ) (l : List A) → drop m (take (m + n) l
 drop_take zero n l = rw zero-add
 drop_take (suc m) n [] = rw (suc-add, take-nil n)
 drop_take (suc m) n (x ∷ l) = rw suc-add (drop_take m n l)
+
+-- a run stored as a whole
+pub sets_put : {A : Type 0} (l vs : List A) (i n : ℕ) → n ≡ length vs → i + length vs ≤ length l → put_mid i n l vs ≡ sets l i vs
+sets_put l vs i n e h = rw (e, drop-drop, ← append_assoc (take i l) vs (drop (i + length vs) l)) (sym (sets-eq vs l i h))

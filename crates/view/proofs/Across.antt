@@ -1,5 +1,6 @@
 -- A worked file of two batches, with both sides in the first and the file control as record 11: what one small batch would not show.
 -- Each fact is computed from the definitions.
+use Rattle.std.specs.Prelude.{Ok}
 use Prim.Native.Nat.{ℕ, ◌+◌}
 use mathlib.Core.Path.{◌≡◌, refl}
 use mathlib.Core.Bool.{true, false}
@@ -9,7 +10,6 @@ use lib.ListN.{length, replicate}
 use Rattle.text.specs.Decimal.{every, value_from, render}
 use Rattle.text.specs.Same.{same_bytes}
 use Rattle.text.specs.Rows.{rows, joined}
-use Rattle.layout.specs.declared.Answer.{Answer}
 use Rattle.check_digit.specs.CheckDigit.{weighed, check_digit}
 use Rattle.check_alone.specs.Own.{unbroken}
 use Rattle.check_record.specs.Record.{checked_of, run_from, fields_from}
@@ -74,7 +74,7 @@ pub record Across : Type 0 where
   -- its file is accepted, with the numbers of both batches
   pub accepted : checked_of Way.Plain (file_of Way.Plain (two 100 1000))
       ≡ record {
-        answer = Answer.Granted;
+        answer = Ok tt;
         batches = 2;
         entries = 4;
         addenda = 1;
@@ -92,7 +92,7 @@ pub record Across : Type 0 where
   pub table : view_of_table (table_bytes (two 100 1000)) ≡ two 100 1000
   pub tables : (shaped (table_bytes (two 100 1000)) ≡ true) × (length (table_bytes (two 100 1000)) ≡ 109 + 190 + 372 + 80)
   -- entry 3 is the first of the second batch, entry 1 the first of the first
-  pub third : alter_of Way.Plain (file_of Way.Plain (two 100 1000)) 3 1001 ≡ record { gives = record { answer = Answer.Granted; difference = pos 1 }; leaves = file_of Way.Plain (two 100 1001) }
+  pub third : alter_of Way.Plain (file_of Way.Plain (two 100 1000)) 3 1001 ≡ record { gives = record { answer = Ok tt; difference = pos 1 }; leaves = file_of Way.Plain (two 100 1001) }
   pub first : (alter_of Way.Plain (file_of Way.Plain (two 100 1000)) 1 99).leaves ≡ file_of Way.Plain (two 99 1000)
   pub third_table : altered_table (table_bytes (two 100 1000)) 3 1001 ≡ table_bytes (two 100 1001)
   -- "the limit is tried on the total less the old amount plus the new"

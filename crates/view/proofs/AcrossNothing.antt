@@ -1,5 +1,6 @@
 -- "Remittances of nothing": worked files with zero-dollar entries, and what each is refused with where one thing is not as asked.
 -- Each fact is computed from the definitions.
+use Rattle.std.specs.Prelude.{Ok}
 use Prim.Native.Nat.{ℕ}
 use mathlib.Core.Path.{◌≡◌, refl}
 use mathlib.Core.List.{List, [], ◌∷◌}
@@ -7,7 +8,6 @@ use lib.IntN.{pos}
 use Rattle.text.specs.Decimal.{every, value_from, render}
 use Rattle.text.specs.Same.{same_bytes}
 use Rattle.text.specs.Rows.{rows, joined}
-use Rattle.layout.specs.declared.Answer.{Answer}
 use Rattle.layout.specs.declared.Way.{Way}
 use Rattle.layout.specs.Paper.{Paper, paper_of}
 use Rattle.check_digit.specs.CheckDigit.{weighed}
@@ -48,7 +48,7 @@ pub record AcrossNothing : Type 0 where
   -- "codes 24 and 34 credit, 29 and 39 debit .. are known from now on"; "the rows by code become twelve, in rising order"
   pub by_code : checked_of Way.Plain (file_of Way.Plain four)
       ≡ record {
-        answer = Answer.Granted;
+        answer = Ok tt;
         batches = 1;
         entries = 5;
         addenda = 4;
@@ -78,7 +78,7 @@ pub record AcrossNothing : Type 0 where
   pub unknown : (printed ccd 200 (entry_of 25 0 1 text) ≡ paper 11 2) × (printed ccd 200 (entry_of 30 0 1 text) ≡ paper 11 2)
   -- "Altering such an entry to anything but 0 is refused 14"
   pub altered : paper_of (alter_of Way.Plain (file_of Way.Plain four) 2 1).gives.answer ≡ record { number = 14; record_no = 5; field_no = 6 }
-  pub altered_not : alter_of Way.Plain (file_of Way.Plain four) 2 0 ≡ record { gives = record { answer = Answer.Granted; difference = pos 0 }; leaves = file_of Way.Plain four }
+  pub altered_not : alter_of Way.Plain (file_of Way.Plain four) 2 0 ≡ record { gives = record { answer = Ok tt; difference = pos 0 }; leaves = file_of Way.Plain four }
 
 -- all of them hold
 pub across_nothing : AcrossNothing

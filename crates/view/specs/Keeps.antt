@@ -1,10 +1,9 @@
 -- The rules of the paper, over a view: `Keeps v` says that the file which v makes breaks none. No rule is said anew: each is the one
 -- that the field tables name. Counts, hashes, totals, fixed texts and fillers are no part of a view, and `file_of` makes them right.
-use Rattle.std.specs.Prelude.{ℕ, ◌+◌, ◌≤◌, ◌≡◌, List, [], ◌∷◌, eqb, length}
+use Rattle.std.specs.Prelude.{ℕ, ◌+◌, ◌≤◌, ◌≡◌, List, [], ◌∷◌, eqb, length, Ok}
 use Rattle.text.specs.Decimal.{pick}
 use Rattle.layout.specs.declared.Row.{Row}
 use Rattle.layout.specs.Fields.{file_header, batch_header, entry, addendum}
-use Rattle.check_alone.specs.declared.Mark.{Mark}
 use Rattle.check_across.specs.declared.Sums.{Sums}
 use Rattle.check_across.specs.Across.{entry_trace, batch_number}
 use Rattle.check_field.specs.Field.{field_of, total_limit}
@@ -15,7 +14,7 @@ use Rattle.view.specs.Sized.{All}
 
 -- every field of the record r is right: s is what it sees of the records before it, and h the record 5 of its batch
 abbrev pub Right : List Row → Sums → List ℕ → List ℕ → Type 0
-Right rows s h r = All (λ row. field_of s h r row ≡ Mark.Right) rows
+Right rows s h r = All (λ row. field_of s h r row ≡ Ok tt) rows
 
 -- what a record sees of those before it: the batch number, and of its batch how many records there are and the last trace
 abbrev pub seen : ℕ → ℕ → ℕ → Sums

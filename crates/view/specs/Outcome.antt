@@ -1,11 +1,9 @@
 -- What each question gives, and what it leaves in the lent memory, for any bytes at all.
-use Rattle.std.specs.Prelude.{ℕ, zero, suc, ◌+◌, ◌-◌, ◌*◌, Bool, true, false, ◌&&◌, List, [], ◌∷◌, ◌++◌, leb, ltb, length, get_or, take, drop, ℤ, pos, ◌-ℤ◌}
+use Rattle.std.specs.Prelude.{Ok, Err, ℕ, zero, suc, ◌+◌, ◌-◌, ◌*◌, Bool, true, false, ◌&&◌, List, [], ◌∷◌, ◌++◌, leb, ltb, length, get_or, take, drop, ℤ, pos, ◌-ℤ◌}
 use Rattle.std.proofs.lemmas.List.Edits.{sets}
 use Rattle.text.specs.Decimal.{pick}
 use Rattle.layout.specs.declared.Fault.{Fault}
-use Rattle.layout.specs.declared.Answer.{Answer}
-use Rattle.layout.specs.declared.Made.{Made}
-use Rattle.layout.specs.declared.Altered.{Altered}
+use Rattle.layout.specs.Answers.{Answer, Made, Altered}
 use Rattle.layout.specs.declared.Row.{Row}
 use Rattle.layout.specs.declared.Way.{Way}
 use Rattle.layout.specs.Fields.{no_row, entry, addendum}
@@ -30,18 +28,18 @@ demand false refuse rest = refuse
 
 -- the file's own refusals come first
 abbrev pub and_then : Answer → Answer → Answer
-and_then Answer.Granted rest = rest
-and_then (Answer.Refused r) rest = Answer.Refused r
+and_then (Ok _) rest = rest
+and_then (Err r) rest = Err r
 
 -- "Granted, each gives the result's length, and the bytes past it stay"; "every refusal leaves lent memory untouched"
 abbrev pub made : Answer → List ℕ → List ℕ → Outcome Made
-made Answer.Granted result buffer =
-    record { gives = record { answer = Answer.Granted; length = length result }; leaves = result ++ drop (length result) buffer }
-made (Answer.Refused r) result buffer = record { gives = record { answer = Answer.Refused r; length = 0 }; leaves = buffer }
+made (Ok _) result buffer =
+    record { gives = record { answer = Ok tt; length = length result }; leaves = result ++ drop (length result) buffer }
+made (Err r) result buffer = record { gives = record { answer = Err r; length = 0 }; leaves = buffer }
 
 -- "23: granted otherwise, but the lent buffer is too short"
 abbrev pub room : List ℕ → List ℕ → Answer
-room result buffer = demand (leb (length result) (length buffer)) (refusal Fault.Room 0 0) Answer.Granted
+room result buffer = demand (leb (length result) (length buffer)) (refusal Fault.Room 0 0) (Ok tt)
 
 -- "Reading tries the file's refusals, then 23."
 abbrev pub read_of : Way → List ℕ → List ℕ → Outcome Made
@@ -124,13 +122,13 @@ within total old new = leb (total - old + new) total_limit
 
 -- "20 at the batch's control (field 5 for a debit, 6 for a credit), 20 at the file's (6 or 7)"
 abbrev pub limits : View → Spot → Code → ℕ → ℕ → Answer
-limits v s Code.Unknown old new = Answer.Granted
+limits v s Code.Unknown old new = Ok tt
 limits v s (Code.Credit u) old new =
     demand (within (sum_over credit_of s.batch.entries) old new) (refusal Fault.Limit (batch_control_number s) 6)
-    (demand (within (sum_over credit_of (entries_of v)) old new) (refusal Fault.Limit (file_control_number v) 7) Answer.Granted)
+    (demand (within (sum_over credit_of (entries_of v)) old new) (refusal Fault.Limit (file_control_number v) 7) (Ok tt))
 limits v s (Code.Debit u) old new =
     demand (within (sum_over debit_of s.batch.entries) old new) (refusal Fault.Limit (batch_control_number s) 5)
-    (demand (within (sum_over debit_of (entries_of v)) old new) (refusal Fault.Limit (file_control_number v) 6) Answer.Granted)
+    (demand (within (sum_over debit_of (entries_of v)) old new) (refusal Fault.Limit (file_control_number v) 6) (Ok tt))
 
 -- "It tries the file's refusals, 25, 14 at the entry's field 6 (also for more than ten digits), 20 .., 20 .."
 abbrev pub alter_answer : Way → List ℕ → ℕ → ℕ → Answer
@@ -141,8 +139,8 @@ alter_answer way f k amount =
     (limits (view_of way f) (spot_of (view_of way f) k) (code_of (code_in (entry_at (view_of way f) k))) (amount_of (entry_at (view_of way f) k)) amount)))
 
 abbrev pub altered : Answer → ℤ → List ℕ → List ℕ → Outcome Altered
-altered Answer.Granted difference result f = record { gives = record { answer = Answer.Granted; difference = difference }; leaves = result }
-altered (Answer.Refused r) difference result f = record { gives = record { answer = Answer.Refused r; difference = pos 0 }; leaves = f }
+altered (Ok _) difference result f = record { gives = record { answer = Ok tt; difference = difference }; leaves = result }
+altered (Err r) difference result f = record { gives = record { answer = Err r; difference = pos 0 }; leaves = f }
 
 -- "Granted, it gives the new amount less the old, in cents"; the file is the one of the view with that amount put in
 abbrev pub alter_of : Way → List ℕ → ℕ → ℕ → Outcome Altered
@@ -152,7 +150,7 @@ alter_of way f k amount =
 -- "A second question, of the same file and number, tells the refusal: the file's come first, then 25."
 abbrev pub addendum_answer : Way → List ℕ → ℕ → Answer
 addendum_answer way f k =
-    and_then (checked_of way f).answer (demand (exists (view_of way f) k) (refusal Fault.NoEntry 0 0) Answer.Granted)
+    and_then (checked_of way f).answer (demand (exists (view_of way f) k) (refusal Fault.NoEntry 0 0) (Ok tt))
 
 -- "handed back as columns 4-83 of the lent file itself, or as an empty part": where it starts, and how long it is
 pub record Part : Type 0 where
@@ -169,8 +167,8 @@ addendum_part_of e at =
     no_part
 
 abbrev pub part_if : Answer → Part → Part
-part_if Answer.Granted p = p
-part_if (Answer.Refused r) p = no_part
+part_if (Ok _) p = p
+part_if (Err r) p = no_part
 
 abbrev pub addendum_of : Way → List ℕ → ℕ → Part
 addendum_of way f k =

@@ -1,7 +1,7 @@
 -- Altering told through the pay table: the amount is put into the table, and the file is written afresh and checked.
-use Rattle.std.specs.Prelude.{ℕ, ◌≤◌, ◌≡◌, Bool, true, false, ◌&&◌, List, [], ◌∷◌, leb}
+use Rattle.std.specs.Prelude.{Ok, Err, ℕ, ◌≤◌, ◌≡◌, Bool, true, false, ◌&&◌, List, [], ◌∷◌, leb}
 use Rattle.text.specs.Decimal.{pick}
-use Rattle.layout.specs.declared.Answer.{Answer}
+use Rattle.layout.specs.Answers.{Answer}
 use Rattle.layout.specs.declared.Way.{Way}
 use Rattle.check_record.specs.Record.{checked_of}
 use Rattle.view.specs.View.{view_of}
@@ -11,14 +11,14 @@ use Rattle.view.specs.Outcome.{exists, altered_table, alter_of}
 -- "It tries the file's refusals, 25, 14 at the entry's field 6 (also for more than ten digits), 20 .., 20 ..": all that is asked is that
 -- the file is accepted, that there is such an entry, and that the file with the new amount, written afresh, is accepted too
 pub record Alterable (way : Way) (f : List ℕ) (k amount : ℕ) : Type 0 where
-  pub accepted : (checked_of way f).answer ≡ Answer.Granted
+  pub accepted : (checked_of way f).answer ≡ Ok tt
   pub entry : exists (view_of way f) k ≡ true
   pub digits : amount ≤ 9999999999
-  pub afresh : (checked_of way (formed way (altered_table (table_of way f) k amount))).answer ≡ Answer.Granted
+  pub afresh : (checked_of way (formed way (altered_table (table_of way f) k amount))).answer ≡ Ok tt
 
 abbrev pub is_granted : Answer → Bool
-is_granted Answer.Granted = true
-is_granted (Answer.Refused r) = false
+is_granted (Ok _) = true
+is_granted (Err r) = false
 
 -- a call, an entry number and a new amount, may be put into the table t of an accepted file
 abbrev pub may_put : Way → List ℕ → ℕ → ℕ → Bool

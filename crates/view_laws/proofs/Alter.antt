@@ -1,12 +1,16 @@
 -- Altering one amount, for any bytes, entry number and amount: when it is granted, and what it leaves.
 -- Assumes nothing; what a grant leaves is told of granted calls.
+use Rattle.std.specs.Prelude.{Ok, Err}
+use Rattle.std.specs.Bool.{Decides}
+use Rattle.std.proofs.lemmas.Bool.Decides.{same_from_decides}
 use mathlib.Core.Path.{◌≡◌, refl, sym, ap, ◌∙◌}
 use mathlib.Core.Logic.{◌↔◌}
-use mathlib.Core.Bool.{Bool, true, false, ◌&&◌}
+use mathlib.Core.Bool.{Bool, true, ◌&&◌}
 use mathlib.Core.List.{List, [], ◌∷◌, ◌++◌}
 use Prim.Native.Nat.{ℕ, ◌+◌, ◌-◌, ◌^◌, ◌≤◌, ◌<◌}
+use Rattle.std.proofs.Common.{rules}
 use native.Mathlib.Omega.{arith}
-use borrow.Author.Tests.{leb-true, le-leb, eqb-true}
+use borrow.Author.Tests.{leb-true, le-leb}
 use lib.Dec.{leb, lit≤}
 use lib.IntN.{ℤ, pos, ◌-ℤ◌, +ℤ_invr}
 use lib.ListN.{length, drop, get_or, set}
@@ -16,12 +20,12 @@ use Rattle.text.specs.Rows.{columns}
 use Rattle.text.proofs.DecimalLaws.{and_both, both_and, render_value}
 use Rattle.text.proofs.RowLaws.{length_columns}
 use Rattle.text.proofs.SetLaws.{sets_same}
-use Rattle.layout.specs.declared.Answer.{Answer}
+use Rattle.layout.specs.Answers.{Answer}
 use Rattle.layout.specs.declared.Refusal.{Refusal}
 use Rattle.layout.specs.Fields.{entry, batch_control, file_control, part}
 use Rattle.check_codes.specs.declared.Use.{Use}
 use Rattle.check_codes.specs.declared.Code.{Code}
-use Rattle.check_codes.specs.Codes.{code_of, use_carries, carries}
+use Rattle.check_codes.specs.Codes.{code_of, carries}
 use Rattle.check_record.specs.Record.{checked_of}
 use Rattle.view.specs.View.{Entry, View, entry_record, entries_of, amount_of, code_in, file_of, view_of}
 use Rattle.view.specs.Table.{view_of_table, formed, table_of}
@@ -35,8 +39,6 @@ use Rattle.view_laws.proofs.Amend.{amend_entry_lem, amended_record, amend_sized,
 use Rattle.view_laws.proofs.AmendFile.{field_at, Outside, file_length_amended, bytes_stay, bytes_stay_debit, bytes_stay_credit}
 use Rattle.view_laws.proofs.AmendKeeps.{carried_few, amount_carried, AmountRight, amounts_right, amend_keeps}
 use Rattle.view_laws.proofs.Bridge.{granted, accepted_view, keeps_exactly}
-use Rattle.view_laws.proofs.BridgeFields.{never}
-use Rattle.view_laws.proofs.Answers.{not_granted, demand_granted, then_granted}
 use Rattle.view_laws.proofs.RoundTrips.{file_back}
 use Rattle.layout.specs.declared.Way.{Way}
 
@@ -44,19 +46,11 @@ use Rattle.layout.specs.declared.Way.{Way}
 
 -- the answer of an outcome is the one that it was made of
 answered : (x : Answer) (d : ℤ) (result f : List ℕ) → (altered x d result f).gives.answer ≡ x
-answered Answer.Granted d result f = refl
-answered (Answer.Refused r) d result f = refl
+answered x d result f = search rules
 
 all_granted : (x l : Answer) (t u : Bool) (p q : Refusal)
-    → (and_then x (demand t (Answer.Refused p) (demand u (Answer.Refused q) l)) ≡ Answer.Granted) ↔ ((x ≡ Answer.Granted) × (t ≡ true) × (u ≡ true) × (l ≡ Answer.Granted))
-all_granted x l t u p q = (
-  λ e.
-      let a = then_granted x (demand t (Answer.Refused p) (demand u (Answer.Refused q) l)) e in
-      let b = demand_granted t p (demand u (Answer.Refused q) l) a.1 in
-      let c = demand_granted u q l b.1 in
-      (a.0, b.0, c.0, c.1),
-  λ h. rw (h.0, h.1, h.2, h.3),
-)
+    → (and_then x (demand t (Err p) (demand u (Err q) l)) ≡ Ok tt) ↔ ((x ≡ Ok tt) × (t ≡ true) × (u ≡ true) × (l ≡ Ok tt))
+all_granted x l t u p q = search rules
 
 -- there is such an entry
 between : (v : View) (k : ℕ) → exists v k ≡ true → (1 ≤ k) × (k ≤ length (entries_of v))
@@ -73,19 +67,19 @@ module _ (way : Way) (f : List ℕ) (k a : ℕ) where
   v = view_of way f
 
   -- of an accepted file the one is the other
-  afresh : (checked_of way f).answer ≡ Answer.Granted → exists v k ≡ true → a < 10 ^ 10 → formed way (altered_table (table_of way f) k a) ≡ file_of way (amend v k a)
+  afresh : (checked_of way f).answer ≡ Ok tt → exists v k ≡ true → a < 10 ^ 10 → formed way (altered_table (table_of way f) k a) ≡ file_of way (amend v k a)
   afresh g x few =
       let p = accepted_view way f g in
       ap (λ y. formed way (altered_table (table_of way y) k a)) p.form ∙ formed_amended way v k a p.sized x few
 
   -- every test of a granted call held
-  held : (alter_of way f k a).gives.answer ≡ Answer.Granted
-      → ((checked_of way f).answer ≡ Answer.Granted) × (exists v k ≡ true) × (carries (code_of (code_in (entry_at v k))) a ≡ true)
-      × (limits v (spot_of v k) (code_of (code_in (entry_at v k))) (amount_of (entry_at v k)) a ≡ Answer.Granted)
+  held : (alter_of way f k a).gives.answer ≡ Ok tt
+      → ((checked_of way f).answer ≡ Ok tt) × (exists v k ≡ true) × (carries (code_of (code_in (entry_at v k))) a ≡ true)
+      × (limits v (spot_of v k) (code_of (code_in (entry_at v k))) (amount_of (entry_at v k)) a ≡ Ok tt)
   held e = (all_granted (checked_of way f).answer _ (exists v k) (carries (code_of (code_in (entry_at v k))) a) _ _).0 (sym (answered (alter_answer way f k a) _ (file_of way (amend v k a)) f) ∙ e)
 
   -- granted exactly if the file is accepted, the entry is there, and the file written afresh with the amount is accepted
-  pub alter_exactly : ((alter_of way f k a).gives.answer ≡ Answer.Granted) ↔ Alterable way f k a
+  pub alter_exactly : ((alter_of way f k a).gives.answer ≡ Ok tt) ↔ Alterable way f k a
   alter_exactly =
       let c = code_of (code_in (entry_at v k)) in (
         λ e.
@@ -111,38 +105,26 @@ module _ (way : Way) (f : List ℕ) (k a : ℕ) where
       )
 
 -- two amounts that a code carries lie less than 9,999,999,999 apart
-use_near : (u : Use) (x y : ℕ) → use_carries u x ≡ true → use_carries u y ≡ true → x ≤ y + 9999999998
-use_near Use.Live x y p q =
-    let a = leb-true x 9999999999 (and_both (leb 1 x) (leb x 9999999999) p).1 in
-    let b = leb-true 1 y (and_both (leb 1 y) (leb y 9999999999) q).0 in
-    omega arith
-use_near Use.Prenote x y p q = let a = eqb-true x 0 p in omega arith
-use_near Use.Remittance x y p q = let a = eqb-true x 0 p in omega arith
-
 carried_near : (c : Code) (x y : ℕ) → carries c x ≡ true → carries c y ≡ true → (x ≤ y + 9999999998) × (y ≤ x + 9999999998)
-carried_near Code.Unknown x y p q = never p
-carried_near (Code.Credit u) x y p q = (use_near u x y p q, use_near u y x q p)
-carried_near (Code.Debit u) x y p q = (use_near u x y p q, use_near u y x q p)
+carried_near c x y p q = search rules
 
 -- ---- what it leaves
 
 -- a grant leaves the result and gives the difference; a refusal leaves the file and gives 0
-granted_leaves : (x : Answer) (d : ℤ) (result f : List ℕ) → (altered x d result f).gives.answer ≡ Answer.Granted
+granted_leaves : (x : Answer) (d : ℤ) (result f : List ℕ) → (altered x d result f).gives.answer ≡ Ok tt
     → ((altered x d result f).leaves ≡ result) × ((altered x d result f).gives.difference ≡ d)
-granted_leaves Answer.Granted d result f e = (refl, refl)
-granted_leaves (Answer.Refused r) d result f e = not_granted e
+granted_leaves x d result f e = search rules
 
-refused_leaves : (x : Answer) (d : ℤ) (result f : List ℕ) (r : Refusal) → (altered x d result f).gives.answer ≡ Answer.Refused r
+refused_leaves : (x : Answer) (d : ℤ) (result f : List ℕ) (r : Refusal) → (altered x d result f).gives.answer ≡ Err r
     → ((altered x d result f).leaves ≡ f) × ((altered x d result f).gives.difference ≡ pos 0)
-refused_leaves Answer.Granted d result f r e = not_granted (sym e)
-refused_leaves (Answer.Refused p) d result f r e = (refl, refl)
+refused_leaves x d result f r e = search rules
 
 -- "every refusal leaves lent memory untouched", and its difference is 0
-pub alter_refused : (way : Way) (f : List ℕ) (k a : ℕ) (r : Refusal) → (alter_of way f k a).gives.answer ≡ Answer.Refused r
+pub alter_refused : (way : Way) (f : List ℕ) (k a : ℕ) (r : Refusal) → (alter_of way f k a).gives.answer ≡ Err r
     → ((alter_of way f k a).leaves ≡ f) × ((alter_of way f k a).gives.difference ≡ pos 0)
 alter_refused way f k a r e = refused_leaves (alter_answer way f k a) _ (file_of way (amend (view_of way f) k a)) f r e
 
-module _ (way : Way) (f : List ℕ) (k a : ℕ) (e : (alter_of way f k a).gives.answer ≡ Answer.Granted) where
+module _ (way : Way) (f : List ℕ) (k a : ℕ) (e : (alter_of way f k a).gives.answer ≡ Ok tt) where
   may : Alterable way f k a
   may = (alter_exactly way f k a).0 e
 
@@ -166,7 +148,7 @@ module _ (way : Way) (f : List ℕ) (k a : ℕ) (e : (alter_of way f k a).gives.
   alter_leaves = leaves ∙ sym (afresh way f k a may.accepted may.entry few)
 
   -- that file is accepted
-  pub alter_accepted : (checked_of way (alter_of way f k a).leaves).answer ≡ Answer.Granted
+  pub alter_accepted : (checked_of way (alter_of way f k a).leaves).answer ≡ Ok tt
   alter_accepted = ap (λ x. (checked_of way x).answer) alter_leaves ∙ may.afresh
 
   -- its table is the old one with the amount put in
@@ -246,13 +228,13 @@ amend_same v k s keep first last few =
     ap (λ bs. record { row = v.row; batches = bs })
     (st.are ∙ ap (λ x. st.before ++ (record { row = st.batch.row; entries = x } ∷ st.behind)) entries ∙ sym st.were)
 
-same_outcome : (x : Answer) (d : ℤ) (result f : List ℕ) → x ≡ Answer.Granted → d ≡ pos 0 → result ≡ f
-    → altered x d result f ≡ record { gives = record { answer = Answer.Granted; difference = pos 0 }; leaves = f }
+same_outcome : (x : Answer) (d : ℤ) (result f : List ℕ) → x ≡ Ok tt → d ≡ pos 0 → result ≡ f
+    → altered x d result f ≡ record { gives = record { answer = Ok tt; difference = pos 0 }; leaves = f }
 same_outcome x d result f p q r = rw (p, q, r)
 
 -- "Altering to the same amount: granted, difference 0, no byte changes"
-pub alter_same : (way : Way) (f : List ℕ) (k : ℕ) → (checked_of way f).answer ≡ Answer.Granted → exists (view_of way f) k ≡ true
-    → alter_of way f k (amount_of (entry_at (view_of way f) k)) ≡ record { gives = record { answer = Answer.Granted; difference = pos 0 }; leaves = f }
+pub alter_same : (way : Way) (f : List ℕ) (k : ℕ) → (checked_of way f).answer ≡ Ok tt → exists (view_of way f) k ≡ true
+    → alter_of way f k (amount_of (entry_at (view_of way f) k)) ≡ record { gives = record { answer = Ok tt; difference = pos 0 }; leaves = f }
 alter_same way f k g x =
     let v = view_of way f in
     let a = amount_of (entry_at v k) in
@@ -268,50 +250,44 @@ alter_same way f k g x =
 
 -- ---- one call after another
 
--- two tests that hold together are one
-pub same_test : (s t : Bool) → (s ≡ true → t ≡ true) → (t ≡ true → s ≡ true) → s ≡ t
-same_test true t f g = sym (f refl)
-same_test false true f g = g refl
-same_test false false f g = refl
-
-is_granted_lem : (x : Answer) → is_granted x ≡ true → x ≡ Answer.Granted
-is_granted_lem Answer.Granted e = refl
-is_granted_lem (Answer.Refused r) e = never e
+-- the test of an answer
+granted_lem : (x : Answer) → Decides (is_granted x) (x ≡ Ok tt)
+granted_lem x = search rules
 
 -- a call on an accepted file is granted exactly if its table may take the amount
-pub may_put_lem : (way : Way) (f : List ℕ) (k a : ℕ) → (checked_of way f).answer ≡ Answer.Granted → is_granted (alter_of way f k a).gives.answer ≡ may_put way (table_of way f) k a
+pub may_put_lem : (way : Way) (f : List ℕ) (k a : ℕ) → (checked_of way f).answer ≡ Ok tt → is_granted (alter_of way f k a).gives.answer ≡ may_put way (table_of way f) k a
 may_put_lem way f k a g =
     let t = table_of way f in
-    let new = is_granted (checked_of way (formed way (altered_table t k a))).answer in
+    let done = granted_lem (alter_of way f k a).gives.answer in
+    let new = granted_lem (checked_of way (formed way (altered_table t k a))).answer in
     let view = ap (λ v. exists v k) (view_of_table_lem (view_of way f) (accepted_view way f g).sized) in
-    same_test (is_granted (alter_of way f k a).gives.answer) (may_put way t k a)
-    (λ e.
-    let h = (alter_exactly way f k a).0 (is_granted_lem (alter_of way f k a).gives.answer e) in
-    both_and (both_and (view ∙ h.entry) (le-leb a 9999999999 h.digits)) (ap is_granted h.afresh))
-    (λ e.
-    let b = and_both (exists (view_of_table t) k && leb a 9999999999) new e in
-    let c = and_both (exists (view_of_table t) k) (leb a 9999999999) b.0 in
-    ap is_granted ((alter_exactly way f k a).1
-    (record { accepted = g; entry = sym view ∙ c.0; digits = leb-true a 9999999999 c.1; afresh = is_granted_lem (checked_of way (formed way (altered_table t k a))).answer b.1 })))
+    same_from_decides {P = Alterable way f k a} (is_granted (alter_of way f k a).gives.answer) (may_put way t k a)
+    (λ e. (alter_exactly way f k a).0 (done.0 e), λ h. done.1 ((alter_exactly way f k a).1 h)) (
+      λ e.
+          let b = and_both (exists (view_of_table t) k && leb a 9999999999) _ e in
+          let c = and_both (exists (view_of_table t) k) (leb a 9999999999) b.0 in
+          record { accepted = g; entry = sym view ∙ c.0; digits = leb-true a 9999999999 c.1; afresh = new.0 b.1 },
+      λ h. both_and (both_and (view ∙ h.entry) (le-leb a 9999999999 h.digits)) (new.1 h.afresh),
+    )
 
 -- what it leaves is accepted, and has the table that took the amount, or did not
-pub alter_step : (way : Way) (f : List ℕ) (k a : ℕ) → (checked_of way f).answer ≡ Answer.Granted
-    → ((checked_of way (alter_of way f k a).leaves).answer ≡ Answer.Granted) × (table_of way (alter_of way f k a).leaves ≡ granted_table way (table_of way f) k a)
+pub alter_step : (way : Way) (f : List ℕ) (k a : ℕ) → (checked_of way f).answer ≡ Ok tt
+    → ((checked_of way (alter_of way f k a).leaves).answer ≡ Ok tt) × (table_of way (alter_of way f k a).leaves ≡ granted_table way (table_of way f) k a)
 alter_step way f k a g = go (alter_of way f k a).gives.answer refl
   where
     taken : (x : Answer) → (alter_of way f k a).gives.answer ≡ x → pick (is_granted x) (altered_table (table_of way f) k a) (table_of way f) ≡ granted_table way (table_of way f) k a
     taken x e = ap (λ b. pick b (altered_table (table_of way f) k a) (table_of way f)) (ap is_granted (sym e) ∙ may_put_lem way f k a g)
 
     go : (x : Answer) → (alter_of way f k a).gives.answer ≡ x
-        → ((checked_of way (alter_of way f k a).leaves).answer ≡ Answer.Granted) × (table_of way (alter_of way f k a).leaves ≡ granted_table way (table_of way f) k a)
-    go Answer.Granted e = (alter_accepted way f k a e, alter_table way f k a e ∙ taken Answer.Granted e)
-    go (Answer.Refused r) e =
+        → ((checked_of way (alter_of way f k a).leaves).answer ≡ Ok tt) × (table_of way (alter_of way f k a).leaves ≡ granted_table way (table_of way f) k a)
+    go (Ok _) e = (alter_accepted way f k a e, alter_table way f k a e ∙ taken (Ok tt) e)
+    go (Err r) e =
         let l = (alter_refused way f k a r e).0 in
-        (ap (λ x. (checked_of way x).answer) l ∙ g, ap (table_of way) l ∙ taken (Answer.Refused r) e)
+        (ap (λ x. (checked_of way x).answer) l ∙ g, ap (table_of way) l ∙ taken (Err r) e)
 
 -- after any calls the file is accepted, and its table is the one with each granted amount put in
-pub run_table : (way : Way) (calls : List (ℕ × ℕ)) (f : List ℕ) → (checked_of way f).answer ≡ Answer.Granted
-    → ((checked_of way (alter_run way calls f)).answer ≡ Answer.Granted) × (table_of way (alter_run way calls f) ≡ table_run way calls (table_of way f))
+pub run_table : (way : Way) (calls : List (ℕ × ℕ)) (f : List ℕ) → (checked_of way f).answer ≡ Ok tt
+    → ((checked_of way (alter_run way calls f)).answer ≡ Ok tt) × (table_of way (alter_run way calls f) ≡ table_run way calls (table_of way f))
 unfolding alter_run table_run
 run_table way [] f g = (g, refl)
 run_table way (c ∷ calls) f g =
@@ -320,5 +296,5 @@ run_table way (c ∷ calls) f g =
     (r.0, r.1 ∙ ap (table_run way calls) s.1)
 
 -- so it is the file that is written afresh from that table
-pub run_file : (way : Way) (calls : List (ℕ × ℕ)) (f : List ℕ) → (checked_of way f).answer ≡ Answer.Granted → alter_run way calls f ≡ formed way (table_run way calls (table_of way f))
+pub run_file : (way : Way) (calls : List (ℕ × ℕ)) (f : List ℕ) → (checked_of way f).answer ≡ Ok tt → alter_run way calls f ≡ formed way (table_run way calls (table_of way f))
 run_file way calls f g = let r = run_table way calls f g in sym (file_back way (alter_run way calls f) r.0).1 ∙ ap (formed way) r.1

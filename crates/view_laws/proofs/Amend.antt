@@ -8,7 +8,7 @@ use native.Mathlib.Omega.{arith}
 use borrow.Author.Tests.{lt-ltb, le-ltb}
 use lib.Dec.{lit<, lit≤}
 use lib.ListN.{length, drop, get_or, set, length-append, length-set, length-map, get_or-append, get_or-map}
-use lib.Seq.{sets, length-sets, get_or-append-add, set-append_left, get_or-set_same}
+use lib.Seq.{map-set, sets, length-sets, get_or-append-add, set-append_left, get_or-set_same}
 use Rattle.text.specs.Decimal.{value, render}
 use Rattle.text.specs.Patch.{patch}
 use Rattle.text.specs.Rows.{columns, joined, section}
@@ -24,7 +24,7 @@ use Rattle.view.specs.View.{Entry, Batch, View, entry_record, entries_of, sum_ov
 use Rattle.view.specs.Table.{count_wide, entry_wide, batch_row, addenda_of, table_bytes}
 use Rattle.view.specs.Outcome.{no_entry, entry_at, spot_from, spot_of, amended, amend_entry, amend_batch, amend, altered_table}
 use Rattle.view.specs.Sized.{All, SizedEntry, SizedBatch, Sized}
-use Rattle.view_laws.proofs.Lists.{by_lt, fold_append, set_right, map_set, all_mid, all_swap, all_set, all_at, sum_set}
+use Rattle.view_laws.proofs.Lists.{by_lt, fold_append, set_right, all_mid, all_swap, all_set, all_at, sum_set}
 use Rattle.view_laws.proofs.Tables.{entries_in, texts_in, entry_sections, entries_sized, rows_of_entries, entry_part_lem}
 
 -- ---- an entry with another amount
@@ -319,7 +319,7 @@ module _ (v : View) (k a : ℕ) (s : Sized v) (first : 1 ≤ k) (last : k ≤ le
 
   entry_rows_amended : map (λ e. e.row) (entries_of (amend v k a)) ≡ patch (map (λ e. e.row) (entries_of v)) (k - 1) 28 (render 10 a)
   entry_rows_amended =
-      rw (entries_amended, map_set (λ e. e.row) (entries_of v) (k - 1) (amended (entry_at v k) a), amended_row (entry_at v k) a, patch_set)
+      rw (entries_amended, map-set (λ e. e.row) (entries_of v) (k - 1) (amended (entry_at v k) a), amended_row (entry_at v k) a, patch_set)
       (ap (λ r. set (map (λ e. e.row) (entries_of v)) (k - 1) (sets r 28 (render 10 a))) (sym (get_or-map (λ e. e.row) (entries_of v) (k - 1) no_entry)))
 
   -- the table is the old one with ten bytes set

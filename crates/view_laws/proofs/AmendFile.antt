@@ -2,7 +2,7 @@
 -- Assumes the view's sizes, an entry that there is, and an amount of ten digits.
 use mathlib.Core.Path.{◌≡◌, refl, sym, ap, ap₂, ◌∙◌}
 use mathlib.Core.Logic.{◌⊎◌, inl, inr}
-use mathlib.Core.List.{List, [], ◌∷◌, ◌++◌, map, foldr, append_assoc}
+use mathlib.Core.List.{List, [], ◌∷◌, ◌++◌, map, append_assoc}
 use Prim.Native.Nat.{ℕ, zero, suc, ◌+◌, ◌-◌, ◌*◌, ◌^◌, ◌≤◌, ◌<◌}
 use native.Mathlib.Nat.{le_of_suc-le-suc}
 use native.Mathlib.Numerals.{add-one}
@@ -29,6 +29,7 @@ use Rattle.view_laws.proofs.Lists.{fold_append, set_right, set_field, wide_set, 
 use Rattle.view_laws.proofs.Ways.{closed_three}
 use Rattle.view_laws.proofs.Formed.{batch_control_widths, batch_control_texts, batch_control_wide, file_control_widths, file_control_texts, file_control_wide}
 use Rattle.view_laws.proofs.Reading.{records_long}
+use Rattle.view_laws.proofs.BridgeSums.{entries_records, entries_length}
 use Rattle.view_laws.proofs.Amend.{records_for, amended_batch, amended_record, amended_trace, Moved, moved, debit_moved, credit_moved, batches_length, spot_amended, spot_sized, Stands, stands, file_moved, batch_moved}
 
 -- the byte, from 0, where field k of record n begins
@@ -46,17 +47,9 @@ stays f at n x p (inr h) = get_d_sets_behind f at (render n x) p 0 (rw length_re
 
 -- ---- the records of one batch
 
-abbrev records_with : List Entry → List (List ℕ)
-records_with es = foldr (λ e rs. entry_records e ++ rs) [] es
-
--- an entry has as many records as are counted for it, and so have all
+-- an entry has as many records as are counted for it
 length_entry : (e : Entry) → length (entry_records e) ≡ records_in e
 length_entry e = omega (arith, length-map e.addenda (addendum_record e))
-
-length_entries : (es : List Entry) → length (records_with es) ≡ sum_over records_in es
-unfolding sum_over
-length_entries [] = refl
-length_entries (e ∷ es) = rw (length-append (entry_records e) (records_with es), length_entry e, length_entries es)
 
 -- the records behind i entries begin inside those of all
 entry_inside : (es : List Entry) (i : ℕ) → i < length es → sum_over records_in (take i es) < sum_over records_in es
@@ -72,21 +65,21 @@ addenda_same e a ts =
 
 -- and the entry itself has another one
 entries_set : (es : List Entry) (i a : ℕ) → i < length es
-    → records_with (amend_entry i a es) ≡ set (records_with es) (sum_over records_in (take i es)) (entry_record (amended (get_or es i no_entry) a))
+    → entries_records (amend_entry i a es) ≡ set (entries_records es) (sum_over records_in (take i es)) (entry_record (amended (get_or es i no_entry) a))
 unfolding amend_entry sum_over
 entries_set [] i a h = absurd (omega arith)
-entries_set (e ∷ es) zero a h = ap (λ l. entry_record (amended e a) ∷ (l ++ records_with es)) (addenda_same e a e.addenda)
+entries_set (e ∷ es) zero a h = ap (λ l. entry_record (amended e a) ∷ (l ++ entries_records es)) (addenda_same e a e.addenda)
 entries_set (e ∷ es) (suc i) a h =
     rw (entries_set es i a (le_of_suc-le-suc h), ← length_entry e)
-    (sym (set_right (entry_records e) (records_with es) (sum_over records_in (take i es)) (entry_record (amended (get_or es i no_entry) a))))
+    (sym (set_right (entry_records e) (entries_records es) (sum_over records_in (take i es)) (entry_record (amended (get_or es i no_entry) a))))
 
 -- which stood there
-entries_get : (es : List Entry) (i : ℕ) → i < length es → get_or (records_with es) (sum_over records_in (take i es)) [] ≡ entry_record (get_or es i no_entry)
+entries_get : (es : List Entry) (i : ℕ) → i < length es → get_or (entries_records es) (sum_over records_in (take i es)) [] ≡ entry_record (get_or es i no_entry)
 unfolding sum_over
 entries_get [] i h = absurd (omega arith)
 entries_get (e ∷ es) zero h = refl
 entries_get (e ∷ es) (suc i) h =
-    rw (← length_entry e, get_or-append-add (entry_records e) (records_with es) (sum_over records_in (take i es)) []) (entries_get es i (le_of_suc-le-suc h))
+    rw (← length_entry e, get_or-append-add (entry_records e) (entries_records es) (sum_over records_in (take i es)) []) (entries_get es i (le_of_suc-le-suc h))
 
 -- a batch with one amount put in has two other records
 module _ (b : Batch) (i a : ℕ) (inside : i < length b.entries) where
@@ -95,11 +88,11 @@ module _ (b : Batch) (i a : ℕ) (inside : i < length b.entries) where
       (suc (sum_over records_in b.entries)) (batch_control_record (amended_batch b i a))
   batch_set =
       let es = b.entries in
-      let rs = records_with es in
+      let rs = entries_records es in
       let j = sum_over records_in (take i es) in
       let x = entry_record (amended (get_or es i no_entry) a) in
-      let l : length (set rs j x) ≡ sum_over records_in es = length-set rs j x ∙ length_entries es in
-      let g : j < length rs = rw length_entries (entry_inside es i inside) in
+      let l : length (set rs j x) ≡ sum_over records_in es = length-set rs j x ∙ entries_length es in
+      let g : j < length rs = rw entries_length (entry_inside es i inside) in
       ap (λ t. batch_record b ∷ t)
       (rw (set-append_left rs (batch_control_record b ∷ []) j x g, set_at (set rs j x) (batch_control_record b) [] (batch_control_record (amended_batch b i a)) (sum_over records_in es) l, entries_set es i a inside))
 
@@ -107,15 +100,15 @@ module _ (b : Batch) (i a : ℕ) (inside : i < length b.entries) where
   batch_entry =
       let es = b.entries in
       let j = sum_over records_in (take i es) in
-      let g : j < length (records_with es) = rw length_entries (entry_inside es i inside) in
-      get_or-append (records_with es) (batch_control_record b ∷ []) [] j g ∙ entries_get es i inside
+      let g : j < length (entries_records es) = rw entries_length (entry_inside es i inside) in
+      get_or-append (entries_records es) (batch_control_record b ∷ []) [] j g ∙ entries_get es i inside
 
 -- its control is its last record
 batch_control_lem : (b : Batch) → get_or (batch_records b) (suc (sum_over records_in b.entries)) [] ≡ batch_control_record b
-batch_control_lem b = get_or_at (records_with b.entries) (batch_control_record b) [] [] (sum_over records_in b.entries) (length_entries b.entries)
+batch_control_lem b = get_or_at (entries_records b.entries) (batch_control_record b) [] [] (sum_over records_in b.entries) (entries_length b.entries)
 
 length_batch : (b : Batch) → length (batch_records b) ≡ suc (suc (sum_over records_in b.entries))
-length_batch b = ap suc (length-append (records_with b.entries) (batch_control_record b ∷ []) ∙ rw length_entries (add-one (sum_over records_in b.entries)))
+length_batch b = ap suc (length-append (entries_records b.entries) (batch_control_record b ∷ []) ∙ rw entries_length (add-one (sum_over records_in b.entries)))
 
 -- ---- control records with other totals
 

@@ -1,74 +1,53 @@
 -- One amount put into a view that keeps the rules: it still keeps them exactly if the code carries the amount and the totals of the
 -- entry's side stay within the limit.
 -- Assumes the view's sizes and rules, an entry that there is, and an amount of ten digits.
+use Rattle.std.specs.Prelude.{Ok}
 use mathlib.Core.Path.{◌≡◌, refl, sym, ap, subst, ◌∙◌}
 use mathlib.Core.Logic.{◌↔◌}
 use mathlib.Core.Bool.{Bool, true, false}
 use mathlib.Core.List.{List, [], ◌∷◌, ◌++◌}
 use Prim.Native.Nat.{ℕ, zero, suc, ◌+◌, ◌-◌, ◌^◌, ◌≤◌, ◌<◌}
 use native.Mathlib.Nat.{le_of_suc-le-suc}
+use Rattle.std.proofs.Common.{rules}
 use native.Mathlib.Omega.{arith}
-use borrow.Author.Tests.{leb-true, le-leb, eqb-true}
-use lib.Dec.{lit<, lit≤, leb}
+use lib.Dec.{lit<, lit≤}
 use lib.ListN.{length, get_or, length-set}
 use Rattle.text.specs.Decimal.{digits, value, render}
 use Rattle.text.specs.Rows.{columns}
-use Rattle.text.proofs.DecimalLaws.{and_both, length_render, digits_render, value_render_lt}
+use Rattle.text.proofs.DecimalLaws.{length_render, digits_render, value_render_lt}
 use Rattle.text.proofs.SetLaws.{part_sets_at}
-use Rattle.layout.specs.declared.Fault.{Fault}
-use Rattle.layout.specs.declared.Answer.{Answer}
-use Rattle.layout.specs.declared.Refusal.{Refusal}
 use Rattle.layout.specs.Fields.{entry, part}
-use Rattle.check_alone.specs.declared.Mark.{Mark}
 use Rattle.check_codes.specs.declared.Use.{Use}
 use Rattle.check_codes.specs.declared.Code.{Code}
-use Rattle.check_alone.specs.Kinds.{need}
 use Rattle.check_codes.specs.Codes.{code_of, use_carries, carries}
 use Rattle.check_across.specs.Across.{amount_rule, entry_code, entry_trace, batch_number}
-use Rattle.check_field.specs.Field.{total_limit}
 use Rattle.view.specs.View.{Entry, Batch, View, batch_record, entry_record, entries_of, sum_over, records_in, amount_of, code_in, debit_of, credit_of, records_of}
-use Rattle.view.specs.Outcome.{demand, no_entry, entry_at, Spot, spot_of, amended, amend_entry, amend, within, limits}
+use Rattle.view.specs.Outcome.{no_entry, entry_at, Spot, spot_of, amended, amend_entry, amend, within, limits}
 use Rattle.view.specs.Sized.{All, SizedEntry, Sized}
 use Rattle.view.specs.Keeps.{Within, EntryKeeps, EntriesKeep, BatchKeeps, BatchesKeep, Keeps}
 use Rattle.view_laws.proofs.Lists.{all_append, all_at}
 use Rattle.view_laws.proofs.Tables.{entries_in, entries_sized}
-use Rattle.view_laws.proofs.BridgeFields.{never, need_right}
-use Rattle.view_laws.proofs.Amend.{amended_batch, amend_entry_lem, amended_record, amended_front, amended_back, amended_amount, amended_code, amended_flag, amended_trace, Moved, debit_moved, credit_moved, Stands, stands, batches_length, entry_amended, entries_length, spot_inside, spot_entry, spot_amended, file_moved, batch_moved}
+use Rattle.view_laws.proofs.Amend.{amended_batch, amend_entry_lem, amended_record, amended_front, amended_back, amended_amount, amended_code, amended_flag, amended_trace, Moved, Stands, stands, batches_length, entry_amended, entries_length, spot_inside, spot_entry, spot_amended, file_moved, batch_moved}
 use Rattle.view_laws.proofs.AmendFile.{records_amended}
-use Rattle.view_laws.proofs.Answers.{demand_granted}
 
 -- ---- what a code carries
 
-use_few : (u : Use) (a : ℕ) → use_carries u a ≡ true → a < 10 ^ 10
-use_few Use.Live a e = let h = leb-true a 9999999999 (and_both (leb 1 a) (leb a 9999999999) e).1 in omega arith
-use_few Use.Prenote a e = rw (eqb-true a 0 e) (lit< tt)
-use_few Use.Remittance a e = rw (eqb-true a 0 e) (lit< tt)
-
 -- what a code carries has ten digits
 pub carried_few : (c : Code) (a : ℕ) → carries c a ≡ true → a < 10 ^ 10
-carried_few Code.Unknown a e = never e
-carried_few (Code.Credit u) a e = use_few u a e
-carried_few (Code.Debit u) a e = use_few u a e
+carried_few c a e = search rules
 
 -- so no code carries an amount of more
 pub never_carried : (c : Code) (a : ℕ) → 10 ^ 10 ≤ a → carries c a ≡ false
-never_carried c a h = go (carries c a) refl
-  where
-    go : (b : Bool) → carries c a ≡ b → carries c a ≡ false
-    go true e = let l = carried_few c a e in absurd (omega arith)
-    go false e = e
+never_carried c a h = search rules
 
 -- ---- the entries of one batch
 
 -- the rule of field 6, both ways
-amount_right_lem : (r p : List ℕ) (a : ℕ) → p ≡ render 10 a → a < 10 ^ 10 → carries (code_of (entry_code r)) a ≡ true → amount_rule r p ≡ Mark.Right
+amount_right_lem : (r p : List ℕ) (a : ℕ) → p ≡ render 10 a → a < 10 ^ 10 → carries (code_of (entry_code r)) a ≡ true → amount_rule r p ≡ Ok tt
 amount_right_lem r p a e few c = rw (e, digits_render 10 a, value_render_lt 10 a few, c)
 
-pub amount_carried : (r p : List ℕ) → amount_rule r p ≡ Mark.Right → (digits p ≡ true) × (carries (code_of (entry_code r)) (value p) ≡ true)
-amount_carried r p e =
-    let c = carries (code_of (entry_code r)) (value p) in
-    let d = need_right (digits p) Fault.Digits (need c Fault.Amount Mark.Right) e in
-    (d.0, (need_right c Fault.Amount Mark.Right d.1).0)
+pub amount_carried : (r p : List ℕ) → amount_rule r p ≡ Ok tt → (digits p ≡ true) × (carries (code_of (entry_code r)) (value p) ≡ true)
+amount_carried r p e = search rules
 
 -- an entry that keeps the rules keeps them with an amount that its code carries
 entry_keeps : (h : List ℕ) (n t : ℕ) (e : Entry) (a : ℕ) → length e.row ≡ 93 → a < 10 ^ 10 → carries (code_of (code_in e)) a ≡ true
@@ -97,7 +76,7 @@ entries_keep h n t (e ∷ es) (suc i) a s few c k = (k.0, entries_keep h (n + re
 
 -- each entry's amount is right
 abbrev pub AmountRight : Entry → Type 0
-AmountRight e = amount_rule (entry_record e) (part entry 6 (entry_record e)) ≡ Mark.Right
+AmountRight e = amount_rule (entry_record e) (part entry 6 (entry_record e)) ≡ Ok tt
 
 entries_right : (h : List ℕ) (n t : ℕ) (es : List Entry) → EntriesKeep h n t es → All AmountRight es
 entries_right h n t [] k = tt
@@ -130,40 +109,21 @@ sum_holds f [] i h = absurd (omega arith)
 sum_holds f (e ∷ es) zero h = omega arith
 sum_holds f (e ∷ es) (suc i) h = omega (arith, sum_holds f es i (le_of_suc-le-suc h))
 
--- "the total less the old amount plus the new" is the new total
-within_total : (total total' old new : ℕ) → old ≤ total → total' + old ≡ total + new → (within total old new ≡ true) ↔ (total' ≤ total_limit)
-within_total total total' old new h e =
-    (λ w. omega (arith, leb-true (total - old + new) total_limit w), λ l. le-leb (total - old + new) total_limit (omega arith))
-
 -- the total of the side that a code is on
 abbrev side_fits : Code → List Entry → ℕ → ℕ → Bool
 side_fits Code.Unknown es old new = true
 side_fits (Code.Credit u) es old new = within (sum_over credit_of es) old new
 side_fits (Code.Debit u) es old new = within (sum_over debit_of es) old new
 
-both : (s t : Bool) (x y : Refusal) → demand s (Answer.Refused x) (demand t (Answer.Refused y) Answer.Granted) ≡ Answer.Granted → (s ≡ true) × (t ≡ true)
-both s t x y e = let h = demand_granted s x (demand t (Answer.Refused y) Answer.Granted) e in (h.0, (demand_granted t y Answer.Granted h.1).0)
-
 -- the limits of an alteration are those of the batch and of the file
 limits_fit : (v : View) (s : Spot) (c : Code) (old new : ℕ)
-    → (limits v s c old new ≡ Answer.Granted) ↔ ((side_fits c s.batch.entries old new ≡ true) × (side_fits c (entries_of v) old new ≡ true))
-limits_fit v s Code.Unknown old new = (λ e. (refl, refl), λ p. refl)
-limits_fit v s (Code.Credit u) old new = (λ e. both _ _ _ _ e, λ p. rw (p.0, p.1))
-limits_fit v s (Code.Debit u) old new = (λ e. both _ _ _ _ e, λ p. rw (p.0, p.1))
+    → (limits v s c old new ≡ Ok tt) ↔ ((side_fits c s.batch.entries old new ≡ true) × (side_fits c (entries_of v) old new ≡ true))
+limits_fit v s c old new = search rules
 
 -- where one amount has moved the sums, the totals are within the limit exactly if the side fits
 side_within : (es es' : List Entry) (e : Entry) (a : ℕ) → Moved es e a es' → debit_of e ≤ sum_over debit_of es → credit_of e ≤ sum_over credit_of es → Within es
     → (c : Code) → code_of (code_in e) ≡ c → (side_fits c es (amount_of e) a ≡ true) ↔ Within es'
-side_within es es' e a m d c was Code.Unknown k =
-    (λ w. record { debit = omega (arith, rw k at m.debits, was.debit); credit = omega (arith, rw k at m.credits, was.credit) }, λ w. refl)
-side_within es es' e a m d c was (Code.Credit u) k =
-    let x = credit_moved m u k in
-    let t = within_total (sum_over credit_of es) (sum_over credit_of es') (amount_of e) a (rw k at c) x.1 in
-    (λ w. record { debit = rw x.0 was.debit; credit = t.0 w }, λ w. t.1 w.credit)
-side_within es es' e a m d c was (Code.Debit u) k =
-    let x = debit_moved m u k in
-    let t = within_total (sum_over debit_of es) (sum_over debit_of es') (amount_of e) a (rw k at d) x.0 in
-    (λ w. record { debit = t.0 w; credit = rw x.1 was.credit }, λ w. t.1 w.debit)
+side_within es es' e a m d c was code k = search rules
 
 -- ---- a view with one amount put in
 
@@ -189,7 +149,7 @@ module _ (v : View) (k a : ℕ) (s : Sized v) (keep : Keeps v) (first : 1 ≤ k)
   in_file f = sum_holds f (entries_of v) (k - 1) (omega arith)
 
   -- the limits that an alteration tries are those of the new totals
-  limits_within : (limits v (spot_of v k) (code_of (code_in (entry_at v k))) (amount_of (entry_at v k)) a ≡ Answer.Granted)
+  limits_within : (limits v (spot_of v k) (code_of (code_in (entry_at v k))) (amount_of (entry_at v k)) a ≡ Ok tt)
       ↔ (Within (amend_entry st.index a st.batch.entries) × Within (entries_of (amend v k a)))
   limits_within =
       let e = entry_at v k in
@@ -232,7 +192,7 @@ module _ (v : View) (k a : ℕ) (s : Sized v) (keep : Keeps v) (first : 1 ≤ k)
   -- it keeps the rules exactly if the code carries the amount and no total goes over the limit
   pub amend_keeps : Keeps (amend v k a)
       ↔ ((carries (code_of (code_in (entry_at v k))) a ≡ true)
-      × (limits v (spot_of v k) (code_of (code_in (entry_at v k))) (amount_of (entry_at v k)) a ≡ Answer.Granted))
+      × (limits v (spot_of v k) (code_of (code_in (entry_at v k))) (amount_of (entry_at v k)) a ≡ Ok tt))
   amend_keeps = (
     λ h. (carried h, limits_within.1 (batch_within 0 st.before (amended_batch st.batch st.index a) st.behind (subst (BatchesKeep 0) st.are h.batches), h.within)),
     λ p. kept p.0 (limits_within.0 p.1),

@@ -1,6 +1,7 @@
 -- The bridge: a file is accepted exactly if it is the file of a view that has its sizes and keeps the rules; that view is the one
 -- which the file says. From here on no theorem speaks of the run.
 -- Assumes nothing.
+use Rattle.std.specs.Prelude.{Ok}
 use mathlib.Core.Path.{◌≡◌, refl, sym, ap, ◌∙◌, subst}
 use mathlib.Core.Logic.{◌↔◌}
 use mathlib.Core.Bool.{Bool, true, false, ◌&&◌}
@@ -19,7 +20,6 @@ use Rattle.text.proofs.DecimalLaws.{and_both}
 use Rattle.text.proofs.RowLaws.{joined_rows, rows_long, length_rows}
 use Rattle.layout.specs.declared.Way.{Way}
 use Rattle.layout.specs.Ways.{record_bytes}
-use Rattle.layout.specs.declared.Answer.{Answer}
 use Rattle.layout.specs.declared.Fault.{Fault}
 use Rattle.check_sums.specs.Sums.{start}
 use Rattle.check_record.specs.Record.{run_from, refused, checked_of, length_fits, most_records, raw_records, piece_of}
@@ -30,7 +30,7 @@ use Rattle.view.specs.Keeps.{Keeps}
 use Rattle.view_laws.proofs.Ways.{bare_run, closed_length, pieces_back, cut_long}
 use Rattle.view_laws.proofs.Reading.{records_long, view_of_file}
 use Rattle.view_laws.proofs.BridgeSums.{records_length, body_length, count_records}
-use Rattle.view_laws.proofs.BridgeSound.{refused_not, raw_granted, source}
+use Rattle.view_laws.proofs.BridgeSound.{raw_granted, source}
 use Rattle.view_laws.proofs.BridgeWalk.{granted_of}
 use Rattle.view_laws.proofs.BridgeComplete.{records_accepted}
 
@@ -61,16 +61,16 @@ module _ (way : Way) where
       checked_joined way (records_of v) (records_long v l) (omega arith) k.fits ∙ records_accepted v l k
 
   -- so it is granted
-  pub granted : (v : View) → Sized v → Keeps v → (checked_of way (file_of way v)).answer ≡ Answer.Granted
+  pub granted : (v : View) → Sized v → Keeps v → (checked_of way (file_of way v)).answer ≡ Ok tt
   granted v l k = ap (λ c. c.answer) (complete v l k)
 
   -- an accepted file is the file of a view that keeps the rules
-  pub sound : (f : List ℕ) → (checked_of way f).answer ≡ Answer.Granted → (v : View) × FileOf way f v
+  pub sound : (f : List ℕ) → (checked_of way f).answer ≡ Ok tt → (v : View) × FileOf way f v
   sound f e = go (length_fits way (length f)) refl e
     where
-      go : (b : Bool) → length_fits way (length f) ≡ b → (pick b (run_from start (map (piece_of way) (raw_records way f))) (refused Fault.Length 0 0)).answer ≡ Answer.Granted
+      go : (b : Bool) → length_fits way (length f) ≡ b → (pick b (run_from start (map (piece_of way) (raw_records way f))) (refused Fault.Length 0 0)).answer ≡ Ok tt
           → (v : View) × FileOf way f v
-      go false h g = refused_not Fault.Length 0 0 g
+      go false h g = cc
       go true h g =
           let w = record_bytes way in
           let n = length f / w in
@@ -94,7 +94,7 @@ module _ (way : Way) where
           )
 
   -- exactly so
-  pub accepted_exactly : (f : List ℕ) → ((checked_of way f).answer ≡ Answer.Granted) ↔ ((v : View) × FileOf way f v)
+  pub accepted_exactly : (f : List ℕ) → ((checked_of way f).answer ≡ Ok tt) ↔ ((v : View) × FileOf way f v)
   accepted_exactly f = (sound f, λ p. rw p.1.form (granted p.0 p.1.sized p.1.keeps))
 
   -- and it is the view that the file says: there is one such view
@@ -102,13 +102,13 @@ module _ (way : Way) where
   only_view f v p = rw p.form (sym (view_of_file way v p.sized))
 
   -- so an accepted file says a view that keeps the rules, and is the file of it
-  pub accepted_view : (f : List ℕ) → (checked_of way f).answer ≡ Answer.Granted → FileOf way f (view_of way f)
+  pub accepted_view : (f : List ℕ) → (checked_of way f).answer ≡ Ok tt → FileOf way f (view_of way f)
   accepted_view f e = let p = sound f e in subst (FileOf way f) (only_view f p.0 p.1) p.1
 
   -- and what its check gives is told by that view
-  pub accepted_gives : (f : List ℕ) → (checked_of way f).answer ≡ Answer.Granted → checked_of way f ≡ granted_of (view_of way f)
+  pub accepted_gives : (f : List ℕ) → (checked_of way f).answer ≡ Ok tt → checked_of way f ≡ granted_of (view_of way f)
   accepted_gives f e = let p = accepted_view f e in ap (checked_of way) p.form ∙ complete (view_of way f) p.sized p.keeps
 
   -- a view's file is accepted exactly if the view keeps the rules
-  pub keeps_exactly : (v : View) → Sized v → ((checked_of way (file_of way v)).answer ≡ Answer.Granted) ↔ Keeps v
+  pub keeps_exactly : (v : View) → Sized v → ((checked_of way (file_of way v)).answer ≡ Ok tt) ↔ Keeps v
   keeps_exactly v l = (λ e. subst Keeps (view_of_file way v l) (accepted_view (file_of way v) e).keeps, granted v l)

@@ -1,13 +1,14 @@
 -- The records of a view that keeps the rules are accepted, and with which numbers.
 -- Assumes the view's sizes.
+use Rattle.std.specs.Prelude.{Ok}
 use mathlib.Core.Path.{◌≡◌, refl, ◌∙◌}
 use mathlib.Core.List.{List, [], ◌∷◌}
 use Prim.Native.Nat.{ℕ, ◌^◌, ◌≤◌, ◌<◌}
+use Rattle.std.proofs.Common.{rules}
 use native.Mathlib.Omega.{arith}
 use lib.ListN.{length}
 use Rattle.layout.specs.declared.Line.{Line}
 use Rattle.layout.specs.Fields.{rows_of}
-use Rattle.check_alone.specs.declared.Mark.{Mark}
 use Rattle.check_across.specs.declared.Sums.{Sums}
 use Rattle.check_sums.specs.Sums.{start, no_sums, add_record, add_batch}
 use Rattle.check_across.specs.Across.{batch_number}
@@ -38,15 +39,14 @@ batches_right s (b ∷ bs) l k n =
       record {
         header = λ h. k.0.fields;
         entries = entries_right (add_batch s (batch_record b)) (batch_record b) b.entries k.0.entries;
-        control = control_marks (λ m. m ≡ Mark.Right) refl s b l.0.long (omega arith) (total_right _ w.debit) (total_right _ w.credit);
+        control = control_marks (λ m. m ≡ Ok tt) refl s b l.0.long (omega arith) (total_right _ w.debit) (total_right _ w.credit);
       },
       batches_right (after_batch s b) bs l.1 (rw (batch_number_lem s b) k.1) (omega arith),
     )
 
 -- no batch is empty, nor is the file
 some : {A : Type 0} (xs : List A) → 1 ≤ length xs → Some ⊥ xs
-some [] l = omega arith
-some (x ∷ xs) l = tt
+some xs l = search rules
 
 all_some : (number : ℕ) (bs : List Batch) → BatchesKeep number bs → All (λ b. Some ⊥ b.entries) bs
 all_some number [] k = tt
@@ -64,6 +64,6 @@ records_accepted v l k =
     (record {
       header = k.fields;
       batches = batches_right (add_record no_sums) v.batches l.each k.batches (omega arith);
-      control = λ h. file_control_marks (λ m. m ≡ Mark.Right) refl v h k.fits (total_right _ w.debit) (total_right _ w.credit);
+      control = λ h. file_control_marks (λ m. m ≡ Ok tt) refl v h k.fits (total_right _ w.debit) (total_right _ w.credit);
     })
     refl

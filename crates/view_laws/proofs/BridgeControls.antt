@@ -1,5 +1,6 @@
 -- The fields of the control records: all of them are right, but for the totals, on which the sums decide.
 -- Assumes the sizes, and a number of records that the counts can hold.
+use Rattle.std.specs.Prelude.{Ok}
 use mathlib.Core.Path.{◌≡◌, refl, sym, subst}
 use mathlib.Core.List.{List}
 use Prim.Native.Nat.{ℕ, ◌+◌, ◌-◌, ◌^◌, ◌≤◌, ◌<◌}
@@ -12,7 +13,7 @@ use borrow.Author.Tests.{eq-eqb, le-leb}
 use Rattle.text.specs.Decimal.{every, render}
 use Rattle.text.proofs.DecimalLaws.{digits_render, value_render_lt, same_equal}
 use Rattle.layout.specs.Fields.{batch_control, file_control}
-use Rattle.check_alone.specs.declared.Mark.{Mark}
+use Rattle.check_alone.specs.Mark.{Mark}
 use Rattle.check_across.specs.declared.Sums.{Sums}
 use Rattle.check_field.specs.Field.{field_of, count_rule, hash_rule, total_rule, as_batch_rule, hash_of, total_limit}
 use Rattle.check_sums.specs.Sums.{add_batch}
@@ -22,24 +23,24 @@ use Rattle.view.specs.Sized.{All}
 use Rattle.view_laws.proofs.Formed.{batch_fields, batch_control_fields, file_control_fields}
 use Rattle.view_laws.proofs.BridgeSums.{after_entries, after_body, batch_sums, file_sums, records_length, body_length}
 
-count_right : (n w : ℕ) → n < 10 ^ w → count_rule n (render w n) ≡ Mark.Right
+count_right : (n w : ℕ) → n < 10 ^ w → count_rule n (render w n) ≡ Ok tt
 count_right n w l = rw (digits_render w n, value_render_lt w n l, eq-eqb n n refl)
 
-hash_right : (n : ℕ) → hash_rule n (render 10 (hash_of n)) ≡ Mark.Right
+hash_right : (n : ℕ) → hash_rule n (render 10 (hash_of n)) ≡ Ok tt
 hash_right n = rw (digits_render 10 (hash_of n), value_render_lt 10 (hash_of n) (mod-lt n (lit< tt)), eq-eqb (hash_of n) (hash_of n) refl)
 
 -- a total that is within the limit
-pub total_right : (n : ℕ) → n ≤ total_limit → total_rule n (render 12 n) ≡ Mark.Right
+pub total_right : (n : ℕ) → n ≤ total_limit → total_rule n (render 12 n) ≡ Ok tt
 total_right n l = rw (digits_render 12 n, le-leb n total_limit l, value_render_lt 12 n (omega arith), eq-eqb n n refl)
 
-as_batch_right : (h : List ℕ) (c w : ℕ) → c - 1 + w ≤ length h → as_batch_rule h c (take w (drop (c - 1) h)) ≡ Mark.Right
+as_batch_right : (h : List ℕ) (c w : ℕ) → c - 1 + w ≤ length h → as_batch_rule h c (take w (drop (c - 1) h)) ≡ Ok tt
 as_batch_right h c w l =
     let long : length (take w (drop (c - 1) h)) ≡ w = length-take-le w (drop (c - 1) h) (rw length-drop (omega arith)) in
     rw (long, (same_equal (take w (drop (c - 1) h)) (take w (drop (c - 1) h))).1 refl)
 
 -- Q is asked of the mark of each field
-module _ (Q : Mark → Type 0) (q : Q Mark.Right) where
-  so : (m : Mark) → m ≡ Mark.Right → Q m
+module _ (Q : Mark → Type 0) (q : Q (Ok tt)) where
+  so : (m : Mark) → m ≡ Ok tt → Q m
   so m e = subst Q (sym e) q
 
   -- record 8

@@ -1,11 +1,13 @@
 -- A record that passes its table is the one that the view forms: of each record type, the fields that leave no choice are those that
 -- `file_of` writes.
 -- Assumes nothing.
+use Rattle.std.specs.Prelude.{Ok}
 use mathlib.Core.Path.{◌≡◌, refl, sym, ap, ◌∙◌}
 use mathlib.Core.Bool.{Bool, true, ◌&&◌}
 use mathlib.Core.List.{List, [], ◌∷◌, ◌++◌}
 use Prim.Native.Nat.{ℕ, zero, suc, ◌+◌, ◌-◌, ◌≤◌, ◌<◌}
 use native.Mathlib.Nat.{le_of_suc-le-suc, le_of_eq}
+use Rattle.std.proofs.Common.{rules}
 use native.Mathlib.Omega.{arith}
 use lib.Dec.{eqb, leb, lit<, lit≤}
 use lib.ListN.{length, take, drop, get_or, take-append-drop, drop_of_length-le}
@@ -18,7 +20,6 @@ use Rattle.text.proofs.DecimalLaws.{and_both}
 use Rattle.text.proofs.RowLaws.{joined_cut, length_columns}
 use Rattle.layout.specs.declared.Row.{Row}
 use Rattle.layout.specs.Fields.{no_row, part, file_header, batch_header, entry, addendum, batch_control, file_control, filler}
-use Rattle.check_alone.specs.declared.Mark.{Mark}
 use Rattle.check_across.specs.declared.Sums.{Sums}
 use Rattle.check_across.specs.Across.{entry_trace_rule}
 use Rattle.check_field.specs.Field.{field_of}
@@ -27,7 +28,7 @@ use Rattle.view.specs.Keeps.{Right}
 use Rattle.view_laws.proofs.BridgeFields.{need_right, number_same, decides, decided, field_decided}
 
 -- field j of a right record, from 0
-pub right_at : (rows : List Row) (s : Sums) (h r : List ℕ) (j : ℕ) → j < length rows → Right rows s h r → field_of s h r (get_or rows j no_row) ≡ Mark.Right
+pub right_at : (rows : List Row) (s : Sums) (h r : List ℕ) (j : ℕ) → j < length rows → Right rows s h r → field_of s h r (get_or rows j no_row) ≡ Ok tt
 right_at [] s h r j g e = absurd (omega arith)
 right_at (row ∷ rows) s h r zero g e = e.0
 right_at (row ∷ rows) s h r (suc j) g e = right_at rows s h r j (le_of_suc-le-suc g) e.1
@@ -41,8 +42,7 @@ bytes_at rows s h r j g d a b e = field_decided s h r (get_or rows j no_row) d a
 
 -- a record by its first byte
 pub typed : (b : ℕ) (r : List ℕ) → 1 ≤ length r → get_or r 0 0 ≡ b → r ≡ b ∷ drop 1 r
-typed b [] g e = absurd (omega arith)
-typed b (x ∷ xs) g e = ap (λ y. y ∷ xs) e
+typed b r g e = search rules
 
 -- ---- tables in which every row but the first leaves no choice
 
@@ -122,8 +122,7 @@ fields_joined ws fs r l e =
     sym (take_all (total ws) r (le_of_eq l)) ∙ sym (joined_cut ws r) ∙ ap joined (spans_cut 0 ws r ∙ e)
 
 first_column : (b : ℕ) (r : List ℕ) → 1 ≤ length r → get_or r 0 0 ≡ b → take 1 r ≡ b ∷ []
-first_column b [] g e = absurd (omega arith)
-first_column b (x ∷ xs) g e = ap (λ y. y ∷ []) e
+first_column b r g e = search rules
 
 -- a right record 1
 pub file_formed : (s : Sums) (h r : List ℕ) (bs : List Batch) → length r ≡ 94 → get_or r 0 0 ≡ 49 → Right file_header s h r
@@ -154,7 +153,7 @@ batch_formed s h r es l b e =
     (rw (type, ten, eleven)))
 
 -- "digits, the last seven of the entry's trace"
-trace_digits : (s : Sums) (p : List ℕ) → entry_trace_rule s p ≡ Mark.Right → p ≡ render (length p) s.trace
+trace_digits : (s : Sums) (p : List ℕ) → entry_trace_rule s p ≡ Ok tt → p ≡ render (length p) s.trace
 trace_digits s p e = let one = need_right _ _ _ e in number_same _ p one.0 (need_right _ _ _ one.1).0
 
 -- a right record 7, behind the record of entry e

@@ -1,9 +1,11 @@
 -- An accepted file is the file of a view that keeps the rules.
 -- Assumes nothing.
+use Rattle.std.specs.Prelude.{Ok}
 use mathlib.Core.Path.{◌≡◌, refl, sym, ap, ap₂, ◌∙◌, subst}
-use mathlib.Core.Bool.{Bool, true, false}
+use mathlib.Core.Bool.{Bool, true}
 use mathlib.Core.List.{List, [], ◌∷◌, ◌++◌, map}
 use Prim.Native.Nat.{ℕ, ◌+◌, ◌≤◌}
+use Rattle.std.proofs.Common.{rules}
 use native.Mathlib.Omega.{arith}
 use lib.Dec.{lit≤}
 use lib.ListN.{length, take, drop, replicate, length-append, take-append-drop}
@@ -15,11 +17,10 @@ use Rattle.text.proofs.DecimalLaws.{same_equal}
 use Rattle.text.proofs.RowLaws.{length_columns}
 use Rattle.layout.specs.declared.Way.{Way}
 use Rattle.layout.specs.Ways.{end_of}
-use Rattle.layout.specs.declared.Answer.{Answer}
 use Rattle.layout.specs.Fields.{file_header, rows_of, first_field}
 use Rattle.layout.specs.declared.Fault.{Fault}
 use Rattle.check_sums.specs.declared.State.{State}
-use Rattle.check_record.specs.declared.Verdict.{Verdict}
+use Rattle.check_record.specs.Verdict.{Verdict}
 use Rattle.check_order.specs.Order.{complete}
 use Rattle.check_sums.specs.Sums.{start, no_sums, tally}
 use Rattle.check_record.specs.Record.{fields_from, line_of, Piece, closing, piece_of, stepped, onward, run_from, accepted, refused}
@@ -28,36 +29,31 @@ use Rattle.view.specs.Sized.{All, SizedBatch}
 use Rattle.view.specs.Keeps.{Right, seen, Within, BatchesKeep}
 use Rattle.view_laws.proofs.BridgeFields.{passed_right}
 use Rattle.view_laws.proofs.BridgeRecords.{file_control_by, file_formed}
-use Rattle.view_laws.proofs.BridgeSums.{after_body, batches_records, file_sums, file_control_same}
+use Rattle.view_laws.proofs.BridgeSums.{batches_records, after_body, file_sums, file_control_same}
 use Rattle.view_laws.proofs.BridgeTail.{TailAt, back, ended}
 use Rattle.view_laws.proofs.Ways.{bare_run}
 
 -- a refusal is no grant
-pub refused_not : {A : Type 0} (fault : Fault) (n k : ℕ) → (refused fault n k).answer ≡ Answer.Granted → A
-refused_not fault n k e = absurd (let z : ◌≡◌ {A = ℕ} 0 1 = cc in omega arith)
+pub refused_not : {A : Type 0} (fault : Fault) (n k : ℕ) → (refused fault n k).answer ≡ Ok tt → A
+refused_not fault n k e = cc
 
 -- a run that is granted: at the end, and at each record
-pick_granted : (b : Bool) (st : State) (fault : Fault) (n k : ℕ) → (pick b (accepted st) (refused fault n k)).answer ≡ Answer.Granted → b ≡ true
-pick_granted true st fault n k e = refl
-pick_granted false st fault n k e = refused_not fault n k e
+pick_granted : (b : Bool) (st : State) (fault : Fault) (n k : ℕ) → (pick b (accepted st) (refused fault n k)).answer ≡ Ok tt → b ≡ true
+pick_granted b st fault n k e = search rules
 
 step_granted : (v : Verdict) (next st : State) (n : ℕ) (rs : List (List ℕ))
-    → (onward (stepped v next st).verdict n (bare_run (stepped v next st).state rs)).answer ≡ Answer.Granted
-    → (v ≡ Verdict.Passed) × ((bare_run next rs).answer ≡ Answer.Granted)
-step_granted Verdict.Passed next st n rs e = (refl, e)
-step_granted (Verdict.Failed fault k) next st n rs e = refused_not fault n k e
+    → (onward (stepped v next st).verdict n (bare_run (stepped v next st).state rs)).answer ≡ Ok tt
+    → (v ≡ Ok tt) × ((bare_run next rs).answer ≡ Ok tt)
+step_granted v next st n rs e = search rules
 
 closing_granted : (b : Bool) (v : Verdict) (next st : State) (n : ℕ) (ps : List Piece)
-    → (onward (stepped (closing b v) next st).verdict n (run_from (stepped (closing b v) next st).state ps)).answer ≡ Answer.Granted
-    → (b ≡ true) × (v ≡ Verdict.Passed) × ((run_from next ps).answer ≡ Answer.Granted)
-closing_granted true Verdict.Passed next st n ps e = (refl, refl, e)
-closing_granted true (Verdict.Failed fault k) next st n ps e = refused_not fault n k e
-closing_granted false Verdict.Passed next st n ps e = refused_not Fault.LineEnd n 0 e
-closing_granted false (Verdict.Failed fault k) next st n ps e = refused_not fault n k e
+    → (onward (stepped (closing b v) next st).verdict n (run_from (stepped (closing b v) next st).state ps)).answer ≡ Ok tt
+    → (b ≡ true) × (v ≡ Ok tt) × ((run_from next ps).answer ≡ Ok tt)
+closing_granted b v next st n ps e = search rules
 
 -- every record of an accepted file has its line end, and the run over their columns is granted too
-pub raw_granted : (way : Way) (st : State) (raw : List (List ℕ)) → (run_from st (map (piece_of way) raw)).answer ≡ Answer.Granted
-    → (raw ≡ map (closed_by way) (map (take 94) raw)) × ((bare_run st (map (take 94) raw)).answer ≡ Answer.Granted)
+pub raw_granted : (way : Way) (st : State) (raw : List (List ℕ)) → (run_from st (map (piece_of way) raw)).answer ≡ Ok tt
+    → (raw ≡ map (closed_by way) (map (take 94) raw)) × ((bare_run st (map (take 94) raw)).answer ≡ Ok tt)
 unfolding run_from
 raw_granted way st [] e = (refl, e)
 raw_granted way st (r ∷ raw) e =
@@ -70,7 +66,7 @@ raw_granted way st (r ∷ raw) e =
     (ap₂ (λ x xs. x ∷ xs) whole rest.0, rw both.1 rest.1)
 
 -- what an accepted run has before it
-run_tail : (st : State) (rs : List (List ℕ)) → AllLong 94 rs → (bare_run st rs).answer ≡ Answer.Granted → TailAt st.place st.sums st.header rs
+run_tail : (st : State) (rs : List (List ℕ)) → AllLong 94 rs → (bare_run st rs).answer ≡ Ok tt → TailAt st.place st.sums st.header rs
 unfolding run_from
 run_tail st [] l e = ended st.place st.sums st.header (pick_granted (complete st.place st.sums.records) st _ _ _ e)
 run_tail st (r ∷ rs) l e =
@@ -94,7 +90,7 @@ records_form : (v : View) (r : List ℕ) → r ≡ file_record v
 records_form v r e = rw (file_control_same v, (file_sums v).records, e)
 
 -- records that are accepted are those of a view
-pub source : (rs : List (List ℕ)) → AllLong 94 rs → (bare_run start rs).answer ≡ Answer.Granted → Source rs
+pub source : (rs : List (List ℕ)) → AllLong 94 rs → (bare_run start rs).answer ≡ Ok tt → Source rs
 source rs l e =
     let t = run_tail start rs l e in
     let r = t.0.here in

@@ -3,11 +3,11 @@
 use mathlib.Core.Path.{◌≡◌, refl, ◌∙◌}
 use mathlib.Core.Bool.{true, false}
 use mathlib.Core.List.{List, [], ◌∷◌, ◌++◌, foldr, map}
-use Prim.Native.Nat.{ℕ, suc, ◌+◌, ◌*◌, ◌%◌}
+use Prim.Native.Nat.{ℕ, suc, ◌+◌, ◌*◌}
 use native.Mathlib.Nat.{add_assoc, zero-add}
+use Rattle.std.proofs.Common.{rules}
 use native.Mathlib.Omega.{arith}
 use lib.ListN.{length, replicate, length-append, length-map, length-replicate}
-use borrow.Author.Tests.{eqb-true, eqb-false, eq-eqb, ne_eqb}
 use Rattle.check_codes.specs.Codes.{code_row}
 use Rattle.check_across.specs.declared.Sums.{Sums}
 use Rattle.check_across.specs.Across.{entry_trace, batch_number}
@@ -60,17 +60,17 @@ codes_append c (x ∷ xs) ys = codes_append (add_to_row c (code_row (code_in x))
 
 -- a filled block wants none; else there is one, and then those behind it
 pub fillers_none : (n : ℕ) → filled n ≡ true → fillers_after n ≡ 0
-fillers_none n e = let z = eqb-true (n % 10) 0 e in omega arith
+fillers_none n e = search rules
 
 pub fillers_more : (n : ℕ) → filled n ≡ false → fillers_after n ≡ suc (fillers_after (n + 1))
-fillers_more n e = let z = eqb-false (n % 10) 0 e in omega arith
+fillers_more n e = search rules
 
 -- and the other way round
 pub fillers_full : (n : ℕ) → fillers_after n ≡ 0 → filled n ≡ true
-fillers_full n e = eq-eqb (n % 10) 0 (omega arith)
+fillers_full n e = search rules
 
 pub fillers_due : (n k : ℕ) → fillers_after n ≡ suc k → filled n ≡ false
-fillers_due n k e = ne_eqb (n % 10) 0 (λ z. omega arith)
+fillers_due n k e = search rules
 
 -- ---- a number of the sums that each entry adds to
 
@@ -150,7 +150,7 @@ batches_sum X g k s (b ∷ bs) =
     ∙ rw (k s b, sum_append g b.entries (entries_in bs)) (add_assoc (X s) (sum_over g b.entries) (sum_over g (entries_in bs)))
 
 -- as many records as were run over
-entries_length : (es : List Entry) → length (entries_records es) ≡ sum_over records_in es
+pub entries_length : (es : List Entry) → length (entries_records es) ≡ sum_over records_in es
 unfolding sum_over
 entries_length [] = refl
 entries_length (e ∷ es) = rw (length-append (map (addendum_record e) e.addenda) (entries_records es), length-map, entries_length es) (omega arith)

@@ -5,11 +5,11 @@ use mathlib.Core.Bool.{Bool, true, false}
 use mathlib.Core.List.{List, [], ◌∷◌, ◌++◌, append_assoc}
 use Prim.Native.Nat.{ℕ, ◌+◌, ◌%◌, ◌≤◌}
 use native.Mathlib.Nat.{le_of_eq, add_assoc}
+use Rattle.std.proofs.Common.{rules}
 use native.Mathlib.Omega.{arith}
 use lib.Dec.{eqb, lit<, lit≤}
 use lib.ListN.{length, drop, get_or, replicate, length-append, length-drop}
 use lib.Seq.{take_all}
-use borrow.Author.Tests.{eq-eqb}
 use Rattle.text.specs.Decimal.{pick, render, digits}
 use Rattle.text.specs.Rows.{columns}
 use Rattle.text.proofs.DecimalLaws.{every_take, every_drop, render_value}
@@ -26,9 +26,9 @@ use Rattle.view.specs.View.{Entry, Batch, addendum_record, batch_record, batch_c
 use Rattle.view.specs.Table.{addenda_due}
 use Rattle.view.specs.Sized.{All, SizedEntry, SizedBatch}
 use Rattle.view.specs.Keeps.{Right, EntriesKeep, BatchKeeps, BatchesKeep, Within}
-use Rattle.view_laws.proofs.BridgeFields.{by_eq, never, not_right, need_right, total_within}
+use Rattle.view_laws.proofs.BridgeFields.{need_right, total_within}
 use Rattle.view_laws.proofs.BridgeRecords.{right_at, typed, batch_control_by, file_control_by, batch_control_formed, file_control_formed, filler_formed, batch_formed, addendum_formed}
-use Rattle.view_laws.proofs.BridgeSums.{fillers_none, fillers_more, batch_number_lem, batch_sums, control_same, after_entries, after_batch, after_batches, entries_records, batches_records}
+use Rattle.view_laws.proofs.BridgeSums.{entries_records, batches_records, fillers_more, batch_number_lem, batch_sums, control_same, after_entries, after_batch, after_batches}
 
 -- the two totals in the sums of a batch, and over the file
 pub record Limited (debit credit : ℕ) : Type 0 where
@@ -202,36 +202,30 @@ next_back type r rs right l b g = record { here = r; rest = rs; long = l; byte =
 
 -- by the record's first byte
 tested : (P : Line → Type 0) (a b : ℕ) (yes-line no_line : Line) → (a ≡ b → P yes-line) → (eqb a b ≡ false → P no_line) → P (pick (eqb a b) yes-line no_line)
-tested P a b yes-line no_line f g = by_eq a b (λ e. rw (eq-eqb a b e) (f e)) (λ d. rw d (g d))
+tested P a b yes-line no_line f g = search rules
 
 -- a right record at any place, in front of what is left behind it
 pub back : (p : Place) (s : Sums) (h r : List ℕ) (rs : List (List ℕ)) → length r ≡ 94 → Behind p (line_at p s.records (get_or r 0 0)) s h r rs
 back Place.Start s h r rs l =
-    tested (λ line. Behind Place.Start line s h r rs) (get_or r 0 0) 49 _ _ (λ e g t. (next_back 49 r rs _ l e g, t.0, t.1)) (λ d g t. not_right g.0)
+    tested (λ line. Behind Place.Start line s h r rs) (get_or r 0 0) 49 _ _ (λ e g t. (next_back 49 r rs _ l e g, t.0, t.1)) (λ d g t. cc)
 back Place.FileOpen s h r rs l =
-    tested (λ line. Behind Place.FileOpen line s h r rs) (get_or r 0 0) 53 _ _ (batch_back s h r rs l) (λ d g t. not_right g.0)
+    tested (λ line. Behind Place.FileOpen line s h r rs) (get_or r 0 0) 53 _ _ (batch_back s h r rs l) (λ d g t. cc)
 back Place.BatchOpen s h r rs l =
-    tested (λ line. Behind Place.BatchOpen line s h r rs) (get_or r 0 0) 54 _ _ (entry_any s h r rs l) (λ d g t. not_right g.0)
+    tested (λ line. Behind Place.BatchOpen line s h r rs) (get_or r 0 0) 54 _ _ (entry_any s h r rs l) (λ d g t. cc)
 back Place.AddendumDue s h r rs l =
-    tested (λ line. Behind Place.AddendumDue line s h r rs) (get_or r 0 0) 55 _ _ (λ e g t. (next_back 55 r rs _ l e g, t)) (λ d g t. not_right g.0)
+    tested (λ line. Behind Place.AddendumDue line s h r rs) (get_or r 0 0) 55 _ _ (λ e g t. (next_back 55 r rs _ l e g, t)) (λ d g t. cc)
 back Place.EntryDone s h r rs l =
     let P : Line → Type 0 = λ line. Behind Place.EntryDone line s h r rs in
     tested P (get_or r 0 0) 54 _ _ (λ e g t. (entry_any s h r rs l e g t).0)
-    (λ n. tested P (get_or r 0 0) 56 _ _ (batch_control_back s h r rs l) (λ d g t. not_right g.0))
+    (λ n. tested P (get_or r 0 0) 56 _ _ (batch_control_back s h r rs l) (λ d g t. cc))
 back Place.BatchDone s h r rs l =
     let P : Line → Type 0 = λ line. Behind Place.BatchDone line s h r rs in
     tested P (get_or r 0 0) 53 _ _ (λ e g t. (batch_back s h r rs l e g t).0)
-    (λ n. tested P (get_or r 0 0) 57 _ _ (file_control_back s h r rs l) (λ d g t. not_right g.0))
+    (λ n. tested P (get_or r 0 0) 57 _ _ (file_control_back s h r rs l) (λ d g t. cc))
 back Place.FileDone s h r rs l =
-    tested (λ line. Behind Place.FileDone line s h r rs) (s.records % 10) 0 _ _ (λ e g t. not_right g.0)
+    tested (λ line. Behind Place.FileDone line s h r rs) (s.records % 10) 0 _ _ (λ e g t. cc)
     (λ d g t. rw (fillers_more s.records d, ← t) (ap (λ x. x ∷ rs) (filler_formed s h r l g)))
 
 -- and where there is no record left
 pub ended : (p : Place) (s : Sums) (h : List ℕ) → complete p s.records ≡ true → TailAt p s h []
-ended Place.Start s h e = never e
-ended Place.FileOpen s h e = never e
-ended Place.BatchOpen s h e = never e
-ended Place.AddendumDue s h e = never e
-ended Place.EntryDone s h e = never e
-ended Place.BatchDone s h e = never e
-ended Place.FileDone s h e = rw (fillers_none s.records e)
+ended p s h e = search rules

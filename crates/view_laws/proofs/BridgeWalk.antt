@@ -10,13 +10,13 @@ use lib.ListN.{length, get_or, replicate}
 use lib.Seq.{take_all}
 use Rattle.text.specs.Decimal.{pick, every}
 use Rattle.text.specs.Widths.{AllLong}
-use Rattle.layout.specs.declared.Checked.{Checked}
+use Rattle.layout.specs.Answers.{Checked}
 use Rattle.layout.specs.declared.Line.{Line}
 use Rattle.layout.specs.Fields.{rows_of, first_field}
 use Rattle.check_across.specs.declared.Sums.{Sums}
 use Rattle.check_order.specs.declared.Place.{Place}
 use Rattle.check_sums.specs.declared.State.{State}
-use Rattle.check_record.specs.declared.Verdict.{Verdict}
+use Rattle.check_record.specs.Verdict.{Verdict}
 use Rattle.check_order.specs.Order.{line_at, takes_addendum}
 use Rattle.check_sums.specs.Sums.{start, no_sums, add_record, add_batch, add_entry, tally}
 use Rattle.check_record.specs.Record.{fields_from, line_of, stepped, onward, run_from, accepted}

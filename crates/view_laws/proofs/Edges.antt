@@ -1,5 +1,6 @@
 -- "Both sides of each edge": those marked P, shown of the rules themselves.
 -- Assumes nothing.
+use Rattle.std.specs.Prelude.{Ok, Err}
 use Prim.Native.Nat.{ℕ, ◌+◌}
 use mathlib.Core.Path.{◌≡◌, refl}
 use mathlib.Core.List.{[], ◌∷◌, ◌++◌}
@@ -7,7 +8,7 @@ use lib.ListN.{length, drop, replicate}
 use Rattle.text.specs.Decimal.{every, value_from, render}
 use Rattle.layout.specs.Fields.{part, entry}
 use Rattle.layout.specs.Paper.{number_of}
-use Rattle.check_alone.specs.declared.Mark.{Mark}
+use Rattle.check_alone.specs.Mark.{Mark}
 use Rattle.check_digit.specs.CheckDigit.{weighed, check_digit}
 use Rattle.check_alone.specs.Kinds.{date}
 use Rattle.check_alone.specs.Own.{time, unbroken, account}
@@ -17,8 +18,8 @@ use Rattle.view.specs.View.{Entry, View, entry_record, sum_over, bank_of, credit
 
 -- the paper's number for a field, 0 where it is right
 abbrev pub given : Mark → ℕ
-given Mark.Right = 0
-given (Mark.Wrong fault) = number_of fault
+given (Ok _) = 0
+given (Err fault) = number_of fault
 
 -- an entry of this code, bank and amount; its other columns are blank
 abbrev pub entry_of : ℕ → ℕ → ℕ → Entry

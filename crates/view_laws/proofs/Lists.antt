@@ -1,21 +1,21 @@
 -- Laws of lists, rows and sections that are no matter of payment files.
 -- Assumes nothing.
 use mathlib.Core.Path.{◌≡◌, refl, sym, ap, ◌∙◌}
-use mathlib.Core.Bool.{Bool, true, false}
-use mathlib.Core.List.{List, [], ◌∷◌, ◌++◌, map, foldr, append_assoc, append-nil}
+use mathlib.Core.Bool.{true, false}
+use mathlib.Core.List.{List, [], ◌∷◌, ◌++◌, map, foldr, append_assoc}
 use Prim.Native.Nat.{ℕ, zero, suc, ◌+◌, ◌*◌, ◌≤◌, ◌<◌}
 use native.Mathlib.Nat.{zero-add, le_of_suc-le-suc}
+use Rattle.std.proofs.Common.{rules}
 use native.Mathlib.Omega.{arith}
-use borrow.Author.Tests.{ltb-true, ltb-false}
 use lib.Dec.{ltb}
 use lib.ListN.{length, take, drop, get_or, set, take-append-drop, length-set}
-use lib.Seq.{sets, sets-eq, length-sets, set-set, set-get_or, get_or-set_same, get_or-set_other, set-append_left, set-append_seam, drop-drop, drop-length, length-take-le}
+use lib.Seq.{sets, length-sets, set-set, set-get_or, get_or-set_same, get_or-set_other, set-append_left, set-append_seam, drop-drop, length-take-le}
 use Rattle.text.specs.Decimal.{digits, value, render}
 use Rattle.text.specs.Rows.{joined, rows, section}
 use Rattle.text.specs.Widths.{AllLong, Wide, total}
 use Rattle.text.proofs.DecimalLaws.{render_value}
 use Rattle.text.proofs.RowLaws.{joined_rows, length_rows, long_at}
-use Rattle.text.proofs.SetLaws.{patch_set, sets_left, sets_right, sets_joined}
+use Rattle.text.proofs.SetLaws.{patch_set, sets_left, sets_right, sets_joined, sets_whole}
 use Rattle.view.specs.View.{sum_over}
 use Rattle.view.specs.Sized.{All}
 
@@ -65,11 +65,7 @@ section_cut c w s d h =
 
 -- less, or not, with the test's value
 pub by_lt : {P : Type 0} (k n : ℕ) → (k < n → ltb k n ≡ true → P) → (n ≤ k → ltb k n ≡ false → P) → P
-by_lt {P} k n f g = go (ltb k n) refl
-  where
-    go : (t : Bool) → ltb k n ≡ t → P
-    go true e = f (ltb-true k n e) e
-    go false e = g (ltb-false k n e) e
+by_lt {P} k n f g = search rules
 
 -- ---- one element replaced
 
@@ -77,16 +73,6 @@ module _ {A : Type 0} where
   -- behind the first list
   pub set_right : (xs ys : List A) (i : ℕ) (a : A) → set (xs ++ ys) (length xs + i) a ≡ xs ++ set ys i a
   set_right xs ys i a = sets_right xs ys i (a ∷ [])
-
-  -- a run over a whole list
-  sets_all : (l vs : List A) → length vs ≡ length l → sets l 0 vs ≡ vs
-  sets_all l vs h = sets-eq vs l 0 (omega arith) ∙ rw (zero-add, h, drop-length, append-nil vs)
-
-  -- a function of each
-  pub map_set : {B : Type 0} (f : A → B) (l : List A) (i : ℕ) (a : A) → map f (set l i a) ≡ set (map f l) i (f a)
-  map_set f [] i a = refl
-  map_set f (x ∷ l) zero a = refl
-  map_set f (x ∷ l) (suc i) a = ap (λ r. f x ∷ r) (map_set f l i a)
 
   -- what holds of each holds of the others, and of the one at a place
   pub all_set : (P : A → Type 0) (l : List A) (i : ℕ) (a : A) → All P l → P a → All P (set l i a)
@@ -106,7 +92,7 @@ unfolding joined
 set_field [] fs j f h g e = absurd (omega arith)
 set_field (w ∷ ws) [] j f h g e = absurd h
 set_field (w ∷ ws) (x ∷ fs) zero f h g e =
-    sets_left x (joined fs) 0 f (omega (arith, h.0)) ∙ ap (λ l. l ++ joined fs) (sets_all x f (e ∙ sym h.0))
+    sets_left x (joined fs) 0 f (omega (arith, h.0)) ∙ ap (λ l. l ++ joined fs) (sets_whole x f (e ∙ sym h.0))
 set_field (w ∷ ws) (x ∷ fs) (suc j) f h g e =
     rw (← h.0, sets_right x (joined fs) (total (take j ws)) f, set_field ws fs j f h.1 (le_of_suc-le-suc g) e)
 

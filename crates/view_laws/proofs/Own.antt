@@ -1,23 +1,20 @@
 -- Own entries: the numbers that an acceptance gives are those of the file's own entries.
 -- Assumes nothing.
+use Rattle.std.proofs.Common.{rules}
+use Rattle.std.specs.Prelude.{Ok}
 use mathlib.Core.Path.{◌≡◌, refl, sym, ap, ◌∙◌, subst}
 use mathlib.Core.Bool.{true}
 use mathlib.Core.List.{List, [], ◌∷◌}
-use Prim.Native.Nat.{ℕ, zero, suc, ◌+◌, ◌*◌, ◌<◌}
+use Prim.Native.Nat.{ℕ, ◌+◌, ◌*◌, ◌<◌}
 use native.Mathlib.Nat.{add_assoc, zero-add, add-zero}
-use native.Mathlib.Omega.{arith}
-use lib.Dec.{eqb, lit<}
-use lib.ListN.{length, get_or, set, replicate, length-set, get_or-replicate}
-use lib.Seq.{get_or-set_same, get_or-set_other}
-use borrow.Author.Tests.{eqb-false, eq-eqb, ne_eqb}
-use Rattle.text.specs.Decimal.{pick, digits, value}
-use Rattle.layout.specs.declared.Answer.{Answer}
-use Rattle.layout.specs.declared.Checked.{Checked}
-use Rattle.layout.specs.declared.Fault.{Fault}
-use Rattle.check_alone.specs.declared.Mark.{Mark}
-use Rattle.check_alone.specs.Kinds.{need}
-use Rattle.check_codes.specs.Codes.{code_of, code_row, known, allowed}
-use Rattle.check_across.specs.Across.{code_rule, batch_class, batch_number, class_takes, entry_trace}
+use Rattle.std.proofs.Common.{arith}
+use lib.Dec.{eqb}
+use lib.ListN.{length, get_or, replicate, length-set, get_or-replicate}
+use Rattle.std.proofs.lemmas.Bool.Decides.{nat_tests}
+use Rattle.text.specs.Decimal.{pick, value}
+use Rattle.layout.specs.Answers.{Checked}
+use Rattle.check_codes.specs.Codes.{code_of, code_row, known}
+use Rattle.check_across.specs.Across.{code_rule, batch_number, entry_trace}
 use Rattle.check_sums.specs.Sums.{add_to_row}
 use Rattle.check_record.specs.Record.{checked_of, columns_in}
 use Rattle.view.specs.View.{Entry, Batch, View, batch_record, entry_record, records_in, sum_over, code_in, amount_of, debit_of, credit_of, entries_of, records_of, view_of}
@@ -29,7 +26,6 @@ use Rattle.view_laws.proofs.Formed.{BatchControlFields, batch_control_fields, Fi
 use Rattle.view_laws.proofs.Ways.{columns_back}
 use Rattle.view_laws.proofs.Reading.{records_long}
 use Rattle.view_laws.proofs.Tables.{entries_in, view_of_table_lem}
-use Rattle.view_laws.proofs.BridgeFields.{by_eq, never, need_right}
 use Rattle.view_laws.proofs.BridgeSums.{codes_after, file_sums, count_records}
 use Rattle.view_laws.proofs.BridgeWalk.{granted_of}
 use Rattle.view_laws.proofs.Bridge.{accepted_view, accepted_gives}
@@ -39,84 +35,27 @@ use Rattle.layout.specs.declared.Way.{Way}
 
 -- a known code stands in its row
 pub code_back : (n : ℕ) → known (code_of n) ≡ true → get_or codes (code_row n) 0 ≡ n
-code_back n k =
-    by_eq n 22 (λ e. rw e) λ n22.
-    by_eq n 23 (λ e. rw e) λ n23.
-    by_eq n 24 (λ e. rw e) λ n24.
-    by_eq n 27 (λ e. rw e) λ n27.
-    by_eq n 28 (λ e. rw e) λ n28.
-    by_eq n 29 (λ e. rw e) λ n29.
-    by_eq n 32 (λ e. rw e) λ n32.
-    by_eq n 33 (λ e. rw e) λ n33.
-    by_eq n 34 (λ e. rw e) λ n34.
-    by_eq n 37 (λ e. rw e) λ n37.
-    by_eq n 38 (λ e. rw e) λ n38.
-    by_eq n 39 (λ e. rw e) λ n39.
-    never (rw (n22, n23, n24, n27, n28, n29, n32, n33, n34, n37, n38, n39) at k)
+code_back n k = grind (arith, nat_tests)
 
 -- there are twelve rows
 code_row_small : (n : ℕ) → code_row n < 12
-code_row_small n =
-    by_eq n 22 (λ e. rw e (lit< tt)) λ n22.
-    by_eq n 23 (λ e. rw e (lit< tt)) λ n23.
-    by_eq n 24 (λ e. rw e (lit< tt)) λ n24.
-    by_eq n 27 (λ e. rw e (lit< tt)) λ n27.
-    by_eq n 28 (λ e. rw e (lit< tt)) λ n28.
-    by_eq n 29 (λ e. rw e (lit< tt)) λ n29.
-    by_eq n 32 (λ e. rw e (lit< tt)) λ n32.
-    by_eq n 33 (λ e. rw e (lit< tt)) λ n33.
-    by_eq n 34 (λ e. rw e (lit< tt)) λ n34.
-    by_eq n 37 (λ e. rw e (lit< tt)) λ n37.
-    by_eq n 38 (λ e. rw e (lit< tt)) λ n38.
-    rw (n22, n23, n24, n27, n28, n29, n32, n33, n34, n37, n38) (lit< tt)
-
--- and each row has its own code
-row_back : (k : ℕ) → k < 12 → code_row (get_or codes k 0) ≡ k
-row_back zero l = refl
-row_back (suc zero) l = refl
-row_back (suc (suc zero)) l = refl
-row_back (suc (suc (suc zero))) l = refl
-row_back (suc (suc (suc (suc zero)))) l = refl
-row_back (suc (suc (suc (suc (suc zero))))) l = refl
-row_back (suc (suc (suc (suc (suc (suc zero)))))) l = refl
-row_back (suc (suc (suc (suc (suc (suc (suc zero))))))) l = refl
-row_back (suc (suc (suc (suc (suc (suc (suc (suc zero)))))))) l = refl
-row_back (suc (suc (suc (suc (suc (suc (suc (suc (suc zero))))))))) l = refl
-row_back (suc (suc (suc (suc (suc (suc (suc (suc (suc (suc zero)))))))))) l = refl
-row_back (suc (suc (suc (suc (suc (suc (suc (suc (suc (suc (suc zero))))))))))) l = refl
-row_back (suc (suc (suc (suc (suc (suc (suc (suc (suc (suc (suc (suc k)))))))))))) l = absurd (omega arith)
+code_row_small n = search rules
 
 -- so an entry counts in the row of its code
 in_row : (n k : ℕ) → known (code_of n) ≡ true → k < 12 → eqb (code_row n) k ≡ eqb n (get_or codes k 0)
-in_row n k c l =
-    by_eq n (get_or codes k 0)
-    (λ e. let m : code_row n ≡ k = rw e (row_back k l) in eq-eqb (code_row n) k m ∙ sym (eq-eqb n (get_or codes k 0) e))
-    λ d. ne_eqb (code_row n) k (λ e. eqb-false n (get_or codes k 0) d (sym (code_back n c) ∙ ap (λ j. get_or codes j 0) e)) ∙ sym d
+in_row n k c l = search rules
 
 -- what one entry adds to its row, and to no other
 module _ (c : List ℕ) (j x k : ℕ) (l : j < 12) (s : length c ≡ 24) where
   row_count : get_or (add_to_row c j x) (2 * k) 0 ≡ get_or c (2 * k) 0 + pick (eqb j k) 1 0
-  row_count =
-      let more = get_or c (2 * j) 0 + 1 in
-      get_or-set_other (set c (2 * j) more) (2 * j + 1) (2 * k) _ 0 (λ z. omega arith)
-      ∙ by_eq j k
-      (λ e. rw (e, eq-eqb k k refl) (get_or-set_same c (2 * k) (get_or c (2 * k) 0 + 1) 0 (omega arith)))
-      (λ d. rw d (get_or-set_other c (2 * j) (2 * k) more 0 (λ z. eqb-false j k d (omega arith)) ∙ sym (add-zero _)))
+  row_count = search rules
 
   row_cents : get_or (add_to_row c j x) (2 * k + 1) 0 ≡ get_or c (2 * k + 1) 0 + pick (eqb j k) x 0
-  row_cents =
-      let counted : ℕ → List ℕ = λ i. set c (2 * i) (get_or c (2 * i) 0 + 1) in
-      let still : (i : ℕ) → get_or (counted i) (2 * k + 1) 0 ≡ get_or c (2 * k + 1) 0 = λ i. get_or-set_other c (2 * i) (2 * k + 1) _ 0 (λ z. omega arith) in
-      by_eq j k
-      (λ e. rw (e, eq-eqb k k refl) (get_or-set_same (counted k) (2 * k + 1) _ 0 (rw length-set (omega arith)) ∙ ap (λ n. n + x) (still k)))
-      (λ d. rw d (get_or-set_other (counted j) (2 * j + 1) (2 * k + 1) _ 0 (λ z. eqb-false j k d (omega arith)) ∙ still j ∙ sym (add-zero _)))
+  row_cents = search rules
 
 -- every entry of the file has a known code
-code_known : (h p : List ℕ) → code_rule h p ≡ Mark.Right → known (code_of (value p)) ≡ true
-code_known h p e =
-    let class = need (class_takes h (code_of (value p))) Fault.Remittance Mark.Right in
-    let side = need (allowed (batch_class h) (code_of (value p))) Fault.Side class in
-    (need_right (known (code_of (value p))) Fault.Value side (need_right (digits p) Fault.Digits (need (known (code_of (value p))) Fault.Value side) e).1).0
+code_known : (h p : List ℕ) → code_rule h p ≡ Ok tt → known (code_of (value p)) ≡ true
+code_known h p e = search rules
 
 entries_known : (h : List ℕ) (n t : ℕ) (es : List Entry) → EntriesKeep h n t es → All (λ e. known (code_of (code_in e)) ≡ true) es
 entries_known h n t [] k = tt
@@ -181,17 +120,17 @@ granted_told v k =
     }
 
 -- the numbers of an acceptance are those of the file's own batches, entries and addenda
-pub own_entries : (way : Way) (f : List ℕ) → (checked_of way f).answer ≡ Answer.Granted → Told (checked_of way f) (view_of way f)
+pub own_entries : (way : Way) (f : List ℕ) → (checked_of way f).answer ≡ Ok tt → Told (checked_of way f) (view_of way f)
 own_entries way f e = subst (λ c. Told c (view_of way f)) (sym (accepted_gives way f e)) (granted_told (view_of way f) (accepted_view way f e).keeps)
 
 -- the records of an accepted file, its controls among them, are those that its view makes
-pub own_records : (way : Way) (f : List ℕ) → (checked_of way f).answer ≡ Answer.Granted → columns_in way f ≡ records_of (view_of way f)
+pub own_records : (way : Way) (f : List ℕ) → (checked_of way f).answer ≡ Ok tt → columns_in way f ≡ records_of (view_of way f)
 own_records way f e =
     let p = accepted_view way f e in
     ap (columns_in way) p.form ∙ columns_back way (records_of (view_of way f)) (records_long (view_of way f) p.sized)
 
 -- and every field of a control is the text of such a sum
-pub own_controls : (way : Way) (f : List ℕ) → (checked_of way f).answer ≡ Answer.Granted → All BatchControlFields (view_of way f).batches × FileControlFields (view_of way f)
+pub own_controls : (way : Way) (f : List ℕ) → (checked_of way f).answer ≡ Ok tt → All BatchControlFields (view_of way f).batches × FileControlFields (view_of way f)
 own_controls way f e = (each (view_of way f).batches (accepted_view way f e).sized.each, file_control_fields (view_of way f))
   where
     each : (bs : List Batch) → All SizedBatch bs → All BatchControlFields bs
@@ -199,7 +138,7 @@ own_controls way f e = (each (view_of way f).batches (accepted_view way f e).siz
     each (b ∷ bs) l = (batch_control_fields b l.0.long, each bs l.1)
 
 -- what the pay table's entries come to is the file's two totals
-pub own_table : (way : Way) (f : List ℕ) → (checked_of way f).answer ≡ Answer.Granted
+pub own_table : (way : Way) (f : List ℕ) → (checked_of way f).answer ≡ Ok tt
     → (sum_over debit_of (entries_of (view_of_table (table_of way f))) ≡ (checked_of way f).debit) × (sum_over credit_of (entries_of (view_of_table (table_of way f))) ≡ (checked_of way f).credit)
 own_table way f e =
     let told = own_entries way f e in

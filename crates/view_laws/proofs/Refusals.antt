@@ -1,9 +1,11 @@
 -- What the file that is formed of a table can be refused for: nothing that forming it makes right.
 -- Assumes the table's shape.
+use Rattle.std.specs.Prelude.{Ok, Err}
 use mathlib.Core.Path.{◌≡◌, refl, sym, subst}
 use mathlib.Core.Bool.{Bool, true, false, ◌&&◌, ◌||◌}
 use mathlib.Core.List.{List, [], ◌∷◌, ◌++◌}
 use Prim.Native.Nat.{ℕ, ◌+◌, ◌^◌, ◌≤◌, ◌<◌}
+use Rattle.std.proofs.Common.{rules}
 use native.Mathlib.Omega.{arith}
 use lib.Dec.{eqb, leb, lit<}
 use lib.ListN.{length, take, drop}
@@ -13,9 +15,8 @@ use Rattle.text.specs.Rows.{columns}
 use Rattle.text.specs.Widths.{AllLong}
 use Rattle.text.proofs.DecimalLaws.{and_both, digits_render, value_render_lt}
 use Rattle.layout.specs.declared.Fault.{Fault}
-use Rattle.layout.specs.declared.Answer.{Answer}
+use Rattle.layout.specs.Answers.{Answer, Checked}
 use Rattle.layout.specs.declared.Refusal.{Refusal}
-use Rattle.layout.specs.declared.Checked.{Checked}
 use Rattle.layout.specs.declared.Kind.{Kind}
 use Rattle.layout.specs.declared.Own.{Own}
 use Rattle.layout.specs.declared.Near.{Near}
@@ -23,14 +24,14 @@ use Rattle.layout.specs.declared.Row.{Row}
 use Rattle.layout.specs.declared.Line.{Line}
 use Rattle.layout.specs.Paper.{number_of}
 use Rattle.layout.specs.Fields.{rows_of, first_field, file_header, batch_header, entry, addendum, batch_control, file_control}
-use Rattle.check_alone.specs.declared.Mark.{Mark}
-use Rattle.check_alone.specs.Kinds.{need, fixed, leads}
+use Rattle.check_alone.specs.Mark.{Mark}
+use Rattle.check_alone.specs.Kinds.{need, fixed}
 use Rattle.check_alone.specs.Own.{destination, own_rule}
 use Rattle.check_across.specs.declared.Sums.{Sums}
 use Rattle.check_across.specs.Across.{near_rule}
 use Rattle.check_field.specs.Field.{field_of, kind_rule, total_rule, total_limit}
 use Rattle.check_sums.specs.declared.State.{State}
-use Rattle.check_record.specs.declared.Verdict.{Verdict}
+use Rattle.check_record.specs.Verdict.{Verdict}
 use Rattle.check_sums.specs.Sums.{start, no_sums, add_record, add_batch, add_entry, tally}
 use Rattle.check_record.specs.Record.{found, fields_from, line_of, most_records, checked_of}
 use Rattle.view.specs.View.{Entry, Batch, View, file_record, batch_record, entry_record, addendum_record, batch_control_record, file_control_record, records_of, records_in, sum_over, file_of}
@@ -40,7 +41,6 @@ use Rattle.view_laws.proofs.Lists.{all_append, sum_append}
 use Rattle.view_laws.proofs.Tables.{entries_in, shaped_sized}
 use Rattle.view_laws.proofs.Reading.{records_long}
 use Rattle.view_laws.proofs.Formed.{file_fields, batch_fields, addendum_fields}
-use Rattle.view_laws.proofs.BridgeFields.{never}
 use Rattle.view_laws.proofs.BridgeSums.{after_entry, after_batch, after_body, records_length, body_length}
 use Rattle.view_laws.proofs.BridgeControls.{total_right, control_marks, file_control_marks}
 use Rattle.view_laws.proofs.BridgeWalk.{carry, run_line, EntriesOk, BatchesOk, Some, file_walk}
@@ -58,30 +58,29 @@ of_table number n k = anywhere number || (eqb number 5 && eqb n 1 && eqb k 3)
 
 -- granted, or refused so
 abbrev fine : Answer → Bool
-fine Answer.Granted = true
-fine (Answer.Refused x) = of_table (number_of x.fault) x.record.0 x.field
+fine (Ok _) = true
+fine (Err x) = of_table (number_of x.fault) x.record.0 x.field
 
 -- ---- a record's fields
 
 abbrev fine_mark : ℕ → ℕ → Mark → Bool
-fine_mark n k Mark.Right = true
-fine_mark n k (Mark.Wrong fault) = of_table (number_of fault) n k
+fine_mark n k (Ok _) = true
+fine_mark n k (Err fault) = of_table (number_of fault) n k
 
 abbrev fine_verdict : ℕ → Verdict → Bool
-fine_verdict n Verdict.Passed = true
-fine_verdict n (Verdict.Failed fault k) = of_table (number_of fault) n k
+fine_verdict n (Ok _) = true
+fine_verdict n (Err wrong) = of_table (number_of wrong.fault) n wrong.field
 
 -- at whatever record and field
 record Free (m : Mark) : Type 0 where
   at : (n k : ℕ) → fine_mark n k m ≡ true
 
-right_free : Free Mark.Right
+right_free : Free (Ok tt)
 right_free = record { at = λ n k. refl }
 
 -- the first field that is wrong is refused so
 found_fine : (n k : ℕ) (m : Mark) (rest : Verdict) → fine_mark n k m ≡ true → fine_verdict n rest ≡ true → fine_verdict n (found m k rest) ≡ true
-found_fine n k Mark.Right rest e g = g
-found_fine n k (Mark.Wrong fault) rest e g = e
+found_fine n k m rest e g = search rules
 
 fields_fine : (n k : ℕ) (rows : List Row) (s : Sums) (h r : List ℕ) → All (λ row. Free (field_of s h r row)) rows → fine_verdict n (fields_from k rows s h r) ≡ true
 unfolding fields_from
@@ -90,78 +89,46 @@ fields_fine n k (row ∷ rows) s h r a = found_fine n k (field_of s h r row) _ (
 
 -- a test with such a number, and the tests after it
 need_free : (b : Bool) (fault : Fault) (rest : Mark) → anywhere (number_of fault) ≡ true → Free rest → Free (need b fault rest)
-need_free true fault rest e g = g
-need_free false fault rest e g = record { at = λ n k. rw e }
+need_free b fault rest e g = search rules
 
-pick_free : (b : Bool) (rest : Mark) → Free rest → Free (pick b Mark.Right rest)
-pick_free true rest g = right_free
-pick_free false rest g = g
+pick_free : (b : Bool) (rest : Mark) → Free rest → Free (pick b (Ok tt) rest)
+pick_free b rest g = search rules
 
 -- the kinds whose faults a row of the table can have
 abbrev free_own : Own → Bool
 free_own Own.Destination = false
-free_own Own.Origin = true
-free_own Own.Time = true
-free_own Own.Modifier = true
-free_own Own.Class = true
-free_own Own.EntryClass = true
-free_own Own.Bank = true
-free_own Own.Account = true
+free_own _ = true
 
 abbrev free_kind : Kind → Bool
 free_kind Kind.Type = true
 free_kind Kind.Misplaced = true
-free_kind Kind.Past = false
-free_kind Kind.Nines = false
-free_kind (Kind.Fixed n) = false
-free_kind Kind.Blanks = false
 free_kind Kind.Digits = true
 free_kind Kind.Optional = true
 free_kind Kind.Mandatory = true
 free_kind Kind.Date = true
 free_kind (Kind.Own o) = free_own o
 free_kind (Kind.Near n) = true
-free_kind (Kind.AsBatch c) = false
-free_kind (Kind.Count t) = false
-free_kind (Kind.Hash t) = false
-free_kind (Kind.Total t) = false
+free_kind _ = false
 
 own_free : (o : Own) (p : List ℕ) → free_own o ≡ true → Free (own_rule o p)
-own_free Own.Destination p d = never d
-own_free Own.Origin p d = search (need_free, right_free)
+own_free Own.Destination p d = cc
 own_free Own.Time p d = search (pick_free, need_free, right_free)
-own_free Own.Modifier p d = search (need_free, right_free)
-own_free Own.Class p d = search (need_free, right_free)
-own_free Own.EntryClass p d = search (need_free, right_free)
-own_free Own.Bank p d = search (need_free, right_free)
-own_free Own.Account p d = search (need_free, right_free)
+own_free _ p d = search (need_free, right_free)
 
 near_free : (s : Sums) (h r : List ℕ) (m : Near) (p : List ℕ) → Free (near_rule s h r m p)
 near_free s h r Near.Code p = search (need_free, right_free)
-near_free s h r Near.CheckDigit p = search (need_free, right_free)
-near_free s h r Near.Amount p = search (need_free, right_free)
-near_free s h r Near.Trace p = search (need_free, right_free)
-near_free s h r Near.EntryTrace p = search (need_free, right_free)
-near_free s h r Near.BatchNumber p = search (need_free, right_free)
-near_free s h r Near.Flag p = search (need_free, right_free)
+near_free s h r _ p = search (need_free, right_free)
 
 kind_free : (s : Sums) (h r : List ℕ) (m : Kind) (p : List ℕ) → free_kind m ≡ true → Free (kind_rule s h r m p)
 kind_free s h r Kind.Type p d = record { at = λ n k. refl }
 kind_free s h r Kind.Misplaced p d = record { at = λ n k. refl }
-kind_free s h r Kind.Past p d = never d
-kind_free s h r Kind.Nines p d = never d
-kind_free s h r (Kind.Fixed n) p d = never d
-kind_free s h r Kind.Blanks p d = never d
 kind_free s h r Kind.Digits p d = search (need_free, right_free)
 kind_free s h r Kind.Optional p d = search (need_free, right_free)
 kind_free s h r Kind.Mandatory p d = search (need_free, right_free)
 kind_free s h r Kind.Date p d = search (need_free, right_free)
 kind_free s h r (Kind.Own o) p d = own_free o p d
 kind_free s h r (Kind.Near m) p d = near_free s h r m p
-kind_free s h r (Kind.AsBatch c) p d = never d
-kind_free s h r (Kind.Count t) p d = never d
-kind_free s h r (Kind.Hash t) p d = never d
-kind_free s h r (Kind.Total t) p d = never d
+kind_free s h r _ p d = cc
 
 abbrev all_free : List Row → Bool
 all_free [] = true
@@ -183,19 +150,15 @@ free_append s h r xs ys a b = all_append (λ row. Free (field_of s h r row)) xs 
 abbrev Fine : Line → Sums → List ℕ → List ℕ → Type 0
 Fine line s h r = fine_verdict (s.records + 1) (fields_from (first_field line) (rows_of line) s h r) ≡ true
 
-fixed_right : (n w : ℕ) (p : List ℕ) → n < 10 ^ w → p ≡ render w n → fixed n p ≡ Mark.Right
+fixed_right : (n w : ℕ) (p : List ℕ) → n < 10 ^ w → p ≡ render w n → fixed n p ≡ Ok tt
 fixed_right n w p l e = rw (e, digits_render w n, value_render_lt w n l, eq-eqb n n refl)
 
-free : (m : Mark) → m ≡ Mark.Right → Free m
+free : (m : Mark) → m ≡ Ok tt → Free m
 free m e = subst Free (sym e) right_free
 
 -- "a blank (5), nine digits (6), check digit (12)": the blank is the one 5, at record 1, field 3
 destination_fine : (p : List ℕ) → fine_mark 1 3 (destination p) ≡ true
-destination_fine p = go (leads p) _ (search (need_free, right_free))
-  where
-    go : (b : Bool) (rest : Mark) → Free rest → fine_mark 1 3 (need b Fault.Fixed rest) ≡ true
-    go true rest g = g.at 1 3
-    go false rest g = refl
+destination_fine p = search rules
 
 -- records 1, 5, 6 and 7
 file_fine : (v : View) → length v.row ≡ 85 → Fine Line.FileHeader no_sums start.header (file_record v)
@@ -275,8 +238,7 @@ abbrev FineRun : Checked → Type 0
 FineRun c = fine c.answer ≡ true
 
 carry_fine : (v : Verdict) (next st : State) (rs : List (List ℕ)) → fine_verdict (st.sums.records + 1) v ≡ true → FineRun (bare_run next rs) → FineRun (carry v next st rs)
-carry_fine Verdict.Passed next st rs e p = p
-carry_fine (Verdict.Failed fault k) next st rs e p = e
+carry_fine v next st rs e p = search rules
 
 -- a record that may not stand there: an empty batch, or a file with no batch
 stop_fine : (st : State) (r : List ℕ) (rs : List (List ℕ)) → line_of st r ≡ Line.Other → FineRun (bare_run st (r ∷ rs))
@@ -285,8 +247,7 @@ stop_fine st r rs e = rw (run_line st Line.Other r rs e) refl
 
 -- a batch may be empty, and so may the file
 any : {A : Type 0} (xs : List A) → Some (Unit {0}) xs
-any [] = tt
-any (x ∷ xs) = tt
+any xs = search rules
 
 all_any : (bs : List Batch) → All (λ b. Some (Unit {0}) b.entries) bs
 all_any [] = tt
@@ -322,12 +283,12 @@ view_fine way v l = go (leb (length (records_of v)) most_records) refl
         rw (checked_many way (records_of v) (records_long v l) m) refl
 
 -- a view of right sizes: its file is granted, or refused with one of these numbers
-pub view_refusals : (way : Way) (v : View) → Sized v → (x : Refusal) → (checked_of way (file_of way v)).answer ≡ Answer.Refused x
+pub view_refusals : (way : Way) (v : View) → Sized v → (x : Refusal) → (checked_of way (file_of way v)).answer ≡ Err x
     → of_table (number_of x.fault) x.record.0 x.field ≡ true
 view_refusals way v l x e = rw e at (view_fine way v l)
 
 -- so is the file that is formed of a table of right shape
-pub table_refusals : (way : Way) (t : List ℕ) → shaped t ≡ true → (x : Refusal) → (checked_of way (formed way t)).answer ≡ Answer.Refused x
+pub table_refusals : (way : Way) (t : List ℕ) → shaped t ≡ true → (x : Refusal) → (checked_of way (formed way t)).answer ≡ Err x
     → of_table (number_of x.fault) x.record.0 x.field ≡ true
 table_refusals way t h = view_refusals way (view_of_table t) (shaped_sized t h)
 

@@ -6,8 +6,9 @@ use mathlib.Core.Bool.{true}
 use mathlib.Core.List.{List, [], ◌∷◌, ◌++◌, map, foldr, append_assoc, append-nil}
 use Prim.Native.Nat.{ℕ, ◌+◌, ◌*◌, ◌^◌, ◌≤◌, ◌<◌}
 use native.Mathlib.Nat.{le_of_eq}
+use Rattle.std.proofs.Common.{rules}
 use native.Mathlib.Omega.{arith}
-use borrow.Author.Tests.{eqb-true, eq-eqb}
+use borrow.Author.Tests.{eqb-true}
 use lib.Dec.{lit<, lit≤}
 use lib.ListN.{length, take, drop, take-append-drop, length-append, length-drop, length-map, drop_of_length-le}
 use lib.Seq.{take_at, drop_at, length-take-le}
@@ -37,7 +38,7 @@ entries_sized [] a = tt
 entries_sized (b ∷ bs) a = all_append SizedEntry b.entries (entries_in bs) a.0.each (entries_sized bs a.1)
 
 -- rows as long as the table wants them
-rows_of_batches : (bs : List Batch) → All SizedBatch bs → AllLong batch_wide (map batch_row bs)
+pub rows_of_batches : (bs : List Batch) → All SizedBatch bs → AllLong batch_wide (map batch_row bs)
 rows_of_batches [] a = tt
 rows_of_batches (b ∷ bs) a = (rw (length-append, length_render, a.0.long), rows_of_batches bs a.1)
 
@@ -45,7 +46,7 @@ pub rows_of_entries : (es : List Entry) → All SizedEntry es → AllLong entry_
 rows_of_entries [] a = tt
 rows_of_entries (e ∷ es) a = (a.0.long, rows_of_entries es a.1)
 
-texts_of_entries : (es : List Entry) → All SizedEntry es → AllLong addendum_wide (texts_in es)
+pub texts_of_entries : (es : List Entry) → All SizedEntry es → AllLong addendum_wide (texts_in es)
 texts_of_entries [] a = tt
 texts_of_entries (e ∷ es) a = long_append addendum_wide e.addenda (texts_in es) a.0.texts (texts_of_entries es a.1)
 
@@ -197,8 +198,7 @@ shape t h =
     }
 
 right_shape : (t : List ℕ) → Shape t → shaped t ≡ true
-right_shape t s =
-    rw (s.files, s.batches, s.entries, s.addenda, s.numbers, eq-eqb _ _ s.one, eq-eqb _ _ s.size, eq-eqb _ _ s.taken, eq-eqb _ _ s.due)
+right_shape t s = search rules
 
 -- the table of a view has the right shape
 pub table_shaped : (v : View) → Sized v → shaped (table_bytes v) ≡ true

@@ -1,5 +1,6 @@
 -- The two ways say the same: the same records, with line ends and without, are checked alike and have one view and one table.
 -- Assumes records of 94 columns.
+use Rattle.std.specs.Prelude.{Ok}
 use mathlib.Core.Path.{◌≡◌, refl, sym, ap, ◌∙◌}
 use mathlib.Core.List.{List, [], ◌∷◌, map}
 use Prim.Native.Nat.{ℕ}
@@ -10,7 +11,6 @@ use lib.ListN.{length}
 use borrow.Author.Tests.{leb-true, leb-false}
 use Rattle.text.specs.Rows.{joined}
 use Rattle.text.specs.Widths.{AllLong}
-use Rattle.layout.specs.declared.Answer.{Answer}
 use Rattle.layout.specs.declared.Way.{Way}
 use Rattle.check_record.specs.Record.{checked_of, most_records}
 use Rattle.view.specs.View.{closed_by, view_of, file_of, view_of_records}
@@ -51,7 +51,7 @@ pub record Twin (way other : Way) (f g : List ℕ) : Type 0 where
   pub table : table_of other g ≡ table_of way f
   pub back : file_of way (view_of other g) ≡ f
 
-pub accepted_twin : (way other : Way) (f : List ℕ) → (checked_of way f).answer ≡ Answer.Granted → Twin way other f (file_of other (view_of way f))
+pub accepted_twin : (way other : Way) (f : List ℕ) → (checked_of way f).answer ≡ Ok tt → Twin way other f (file_of other (view_of way f))
 accepted_twin way other f e =
     let p = accepted_view way f e in
     let same = view_of_file other (view_of way f) p.sized in

@@ -2,11 +2,12 @@
 -- Assumes nothing.
 use mathlib.Core.Path.{◌≡◌, refl, sym, ap, ap₂, ◌∙◌, subst}
 use mathlib.Core.List.{List, [], ◌∷◌, map}
-use Prim.Native.Nat.{ℕ, zero, suc, ◌+◌, ◌*◌, ◌/◌, ◌<◌}
-use native.Mathlib.Nat.{mul-div_right, le_of_suc-le-suc}
+use Prim.Native.Nat.{ℕ, ◌+◌, ◌*◌, ◌/◌, ◌<◌}
+use native.Mathlib.Nat.{mul-div_right}
 use native.Mathlib.Omega.{arith}
 use lib.ListN.{length, take, get_or, set, length-append, length-map, length-take}
-use lib.Seq.{take_at, drop_at, length-sets, sets}
+use Rattle.std.proofs.lemmas.List.{get_or-map}
+use lib.Seq.{map-set, take_at, drop_at, length-sets, sets}
 use Rattle.text.specs.Rows.{rows, joined}
 use Rattle.text.specs.Widths.{AllLong}
 use Rattle.text.specs.Same.{same_bytes}
@@ -14,13 +15,13 @@ use Rattle.text.proofs.DecimalLaws.{same_equal}
 use Rattle.text.proofs.RowLaws.{length_joined, rows_joined, long_at}
 use Rattle.text.proofs.SetLaws.{sets_left}
 use Rattle.layout.specs.declared.Way.{Way}
-use Rattle.layout.specs.declared.Checked.{Checked}
+use Rattle.layout.specs.Answers.{Checked}
 use Rattle.layout.specs.Ways.{end_of, record_bytes}
 use Rattle.check_sums.specs.declared.State.{State}
 use Rattle.check_record.proofs.Ways.{some_bytes}
 use Rattle.check_record.specs.Record.{bare, piece_of, raw_records, columns_in, run_from}
 use Rattle.view.specs.View.{closed_by}
-use Rattle.view_laws.proofs.Lists.{map_set, Inside, puts, further, three_puts}
+use Rattle.view_laws.proofs.Lists.{Inside, puts, further, three_puts}
 
 -- the run over records whose line ends are right
 abbrev pub bare_run : State → List (List ℕ) → Checked
@@ -74,11 +75,6 @@ puts_closed way r (p ∷ ps) f =
     let x = sets r p.0 p.1 in
     puts_closed way x ps (rw (length-sets r p.0 p.1) f.1) ∙ ap (λ y. puts y ps) (sym (sets_left r (end_of way) p.0 p.1 f.0))
 
-get_closed : (way : Way) (rs : List (List ℕ)) (i : ℕ) → i < length rs → get_or (map (closed_by way) rs) i [] ≡ closed_by way (get_or rs i [])
-get_closed way [] i h = absurd (omega arith)
-get_closed way (r ∷ rs) zero h = refl
-get_closed way (r ∷ rs) (suc i) h = get_closed way rs i (le_of_suc-le-suc h)
-
 inside_more : (way : Way) (ps : List (ℕ × List ℕ)) → Inside 94 ps → Inside (record_bytes way) ps
 inside_more way [] f = tt
 inside_more way (p ∷ ps) f = (omega (arith, f.0), inside_more way ps f.1)
@@ -97,9 +93,9 @@ module _ (way : Way) (rs : List (List ℕ)) (i j k : ℕ) (x y z : List ℕ) (ps
       let one = set rs i (puts x ps) in
       let two = set one j (puts y qs) in
       ap joined
-      (map_set close two k (puts z us)
-      ∙ ap₂ (λ ls r. set ls k r) (map_set close one j (puts y qs)
-      ∙ ap₂ (λ ls r. set ls j r) (map_set close rs i (puts x ps) ∙ ap (set (map close rs) i) (put i x ps (omega arith) ex fp)) (put j y qs (omega arith) ey fq)) (put k z us m ez fu))
+      (map-set close two k (puts z us)
+      ∙ ap₂ (λ ls r. set ls k r) (map-set close one j (puts y qs)
+      ∙ ap₂ (λ ls r. set ls j r) (map-set close rs i (puts x ps) ∙ ap (set (map close rs) i) (put i x ps (omega arith) ex fp)) (put j y qs (omega arith) ey fq)) (put k z us m ez fu))
       ∙ three_puts (record_bytes way) (map close rs) i j k (close x) (close y) (close z) ps qs us (closed_long way rs l) h g (rw length-map m)
-      (get_closed way rs i (omega arith) ∙ ap close ex) (get_closed way rs j (omega arith) ∙ ap close ey) (get_closed way rs k m ∙ ap close ez)
+      (get_or-map close rs i [] [] (omega arith) ∙ ap close ex) (get_or-map close rs j [] [] (omega arith) ∙ ap close ey) (get_or-map close rs k [] [] m ∙ ap close ez)
       (inside_more way ps fp) (inside_more way qs fq) (inside_more way us fu)

@@ -1,5 +1,6 @@
 -- The worked file: "one 220 PPD batch, two 22 entries at 322070381 of 10000 and 2550 cents, the second with an addendum; 940 bytes,
 -- table 470 bytes." What the definitions say of it, and of the same file with a few bytes changed.
+use Rattle.std.specs.Prelude.{Ok}
 use Prim.Native.Nat.{ℕ, ◌+◌, ◌-◌, ◌*◌}
 use mathlib.Core.Path.{◌≡◌, refl}
 use mathlib.Core.Bool.{true}
@@ -7,7 +8,6 @@ use mathlib.Core.List.{List, [], ◌∷◌, ◌++◌, map}
 use lib.IntN.{pos}
 use lib.ListN.{length, take, replicate}
 use lib.Seq.{sets}
-use Rattle.layout.specs.declared.Answer.{Answer}
 use Rattle.layout.specs.Paper.{Paper, paper_of}
 use Rattle.check_record.specs.Record.{checked_of, run_from, fields_from}
 use Rattle.text.specs.Decimal.{every, value_from, render}
@@ -91,7 +91,7 @@ table =
 -- it is accepted, with its numbers; by code there are two entries of 22 with 12550 cents, and nothing else
 pub whole_accepted : checked_of Way.Plain whole
     ≡ record {
-      answer = Answer.Granted;
+      answer = Ok tt;
       batches = 1;
       entries = 2;
       addenda = 1;
@@ -112,7 +112,7 @@ unfolding every value_from rows joined render sum_over with_entries with_addenda
 whole_table = (refl, refl, refl)
 
 -- one cent more in entry 2: granted, and the file is that of the altered table; the addendum of entry 2 is columns 4-83 of record 5
-pub whole_altered : ((alter_of Way.Plain whole 2 2551).gives.answer ≡ Answer.Granted) × ((alter_of Way.Plain whole 2 2551).gives.difference ≡ pos 1) × ((alter_of Way.Plain whole 2 2551).leaves ≡ formed Way.Plain (altered_table table 2 2551)) × (addendum_of Way.Plain whole 2 ≡ record { from = 379; size = 80 })
+pub whole_altered : ((alter_of Way.Plain whole 2 2551).gives.answer ≡ Ok tt) × ((alter_of Way.Plain whole 2 2551).gives.difference ≡ pos 1) × ((alter_of Way.Plain whole 2 2551).leaves ≡ formed Way.Plain (altered_table table 2 2551)) × (addendum_of Way.Plain whole 2 ≡ record { from = 379; size = 80 })
 unfolding run_from fields_from every value_from same_bytes rows weighed unbroken joined render sum_over with_entries with_addenda every_row spot_from amend_entry amend_batch
 whole_altered = (refl, refl, refl, refl)
 
@@ -260,7 +260,7 @@ lined = joined (map (closed_by Way.Lined) (rows 94 10 whole))
 -- accepted, with the same numbers
 pub lined_accepted : checked_of Way.Lined lined
     ≡ record {
-      answer = Answer.Granted;
+      answer = Ok tt;
       batches = 1;
       entries = 2;
       addenda = 1;

@@ -1,7 +1,6 @@
-use Rattle.ach.specs.Told.{code_of_answer, left}
-use Rattle.layout.specs.declared.Made.{Made}
-use mathlib.Core.Path.{◌∙◌, ap}
+use Rattle.ach.proofs.ToldLaws.{made_told}
+use mathlib.Core.Path.{◌∙◌}
 use Rattle.ach_c.proofs.ach_export.Goals as goal
 
 pub returns : goal.returns
-returns c = let e = c.export-made.ensures.0 in (c.tell_made.ensures.0 ∙ ap (λ (m : Made). code_of_answer m.answer) e, c.export-made.ensures.1, c.tell_made.ensures.1 ∙ ap (λ (m : Made). left m.answer m.length c.args.length.now) e)
+returns c = let e = c.export-made.ensures.0 in (c.tell.ensures.0 ∙ (made_told _ _ c.args.length.now e).0, c.export-made.ensures.1, c.tell.ensures.1 ∙ (made_told _ _ c.args.length.now e).1)

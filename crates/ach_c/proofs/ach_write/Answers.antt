@@ -1,7 +1,7 @@
+use Rattle.ach.proofs.ToldLaws.{made_told}
 use Rattle.view.specs.Outcome.{write_of}
-use mathlib.Core.Path.{ap, ◌∙◌}
-use Rattle.layout.specs.declared.Made.{Made}
-use Rattle.ach.specs.Told.{way_of, code_of_answer, left}
+use mathlib.Core.Path.{◌∙◌}
+use Rattle.ach.specs.Told.{way_of}
 use Rattle.ach_c.specs.Tells.{TellsMade}
 use Rattle.ach_c.proofs.Laws.{told_of}
 use Rattle.ach_c.proofs.ach_write.Goals as goal
@@ -10,7 +10,7 @@ pub returns : goal.returns
 returns c =
     let gives = c.write-made.ensures.0 in
     told_of
-    (λ o. TellsMade o c.args.length.now c.tell_made.result c.write-made.new.file c.tell_made.new.length)
+    (λ o. TellsMade o c.args.length.now c.tell.result c.write-made.new.file c.tell.new.told)
     (λ w. write_of w c.args.table.now c.args.file.now)
     c.way_of.result (way_of c.args.way) c.way_of.ensures
-    (c.tell_made.ensures.0 ∙ ap (λ (m : Made). code_of_answer m.answer) gives, c.write-made.ensures.1, c.tell_made.ensures.1 ∙ ap (λ (m : Made). left m.answer m.length c.args.length.now) gives)
+    (c.tell.ensures.0 ∙ (made_told _ _ c.args.length.now gives).0, c.write-made.ensures.1, c.tell.ensures.1 ∙ (made_told _ _ c.args.length.now gives).1)

@@ -1,14 +1,6 @@
-use mathlib.Core.Path.{refl}
+use Rattle.std.proofs.Common.{rules}
+use Rattle.check_alone.proofs.Laws.{need_err}
 use Rattle.check_across.proofs.trace_rule.Goals as goal
 
-pub returns-then-not-digits : goal.returns-then-not-digits
-returns-then-not-digits c = rw (← c.digits.ensures, c.if-not-digits.true) refl
-
-pub returns-then-not-same : goal.returns-then-not-same
-returns-then-not-same c = rw (← c.digits.ensures, c.if-not-digits.false, ← c.same.ensures, c.if-not-same.true) refl
-
-pub returns-then-not-trace_follows : goal.returns-then-not-trace_follows
-returns-then-not-trace_follows c = rw (← c.digits.ensures, c.if-not-digits.false, ← c.same.ensures, c.if-not-same.false, ← c.trace_number.ensures, ← c.trace_follows.ensures, c.if-not-trace_follows.true) refl
-
-pub returns : goal.returns
-returns c = rw (← c.digits.ensures, c.if-not-digits.false, ← c.same.ensures, c.if-not-same.false, ← c.trace_number.ensures, ← c.trace_follows.ensures, c.if-not-trace_follows.false) refl
+pub returns-in_err-all_digits : goal.returns-in_err-all_digits
+returns-in_err-all_digits c = need_err _ _ _ _ _ _ c.all_digits.ensures c.in_err-all_digits.was (search rules)

@@ -1,21 +1,24 @@
-use Rattle.check_file.proofs.Laws.{left, state}
+use Rattle.check_file.proofs.Laws.{Left, left, state}
+use Rattle.check_record.proofs.Laws.{fields_left}
 use Rattle.check_sums.specs.WorkFair.{Fair}
 use Rattle.check_record.specs.Record.{fields_from, checked_of}
 use Rattle.layout.specs.Ways.{record_bytes}
 use Rattle.layout.specs.Fields.{rows_of, first_field}
-use lib.ListN.{length, drop}
+use Rattle.std.specs.Slice.Iter.{chunks_exact_rest, chunks_exact_size}
+use lib.ListN.{length}
 use mathlib.Core.Path.{◌≡◌}
-use Prim.Native.Nat.{◌+◌, ◌-◌, ◌*◌, ◌≤◌}
 use Rattle.check_file.proofs.check.Given as goal
 
 abbrev pub invariant-loop-k : goal.invariant-loop-k
-invariant-loop-k l = (l.k ≤ length (rows_of l.line)) × (l.number ≤ l.k + 1) × (fields_from l.number (drop l.k (rows_of l.line)) l.sums l.header l.rec ≡ fields_from (first_field l.line) (rows_of l.line) l.sums l.header l.rec)
+invariant-loop-k l = fields_left l.line l.k l.sums l.header l.rec ≡ fields_from (first_field l.line) (rows_of l.line) l.sums l.header l.rec
 
-abbrev pub decreases-loop-k : goal.decreases-loop-k
-decreases-loop-k l = l.count - l.k
-
-abbrev pub invariant-records : goal.invariant-records
-invariant-records l = Fair (state l.place l.sums l.header l.bycode) × (l.at ≡ record_bytes l.way * l.sums.records) × (l.at ≤ length l.file) × (left l.way l.file (state l.place l.sums l.header l.bycode) l.at ≡ checked_of l.way l.file) × (length l.header ≡ 94) × (length l.bycode ≡ 24)
-
-abbrev pub decreases-records : goal.decreases-records
-decreases-records l = length l.file - l.at
+abbrev pub invariant-loop-raw : goal.invariant-loop-raw
+invariant-loop-raw l =
+    record {
+      next : (goal.iterator-loop-raw).can_next l.raw-iterator;
+      ends : (goal.iterator-loop-raw).is_finite l.raw-iterator;
+      wide : chunks_exact_size l.raw-iterator ≡ record_bytes l.way;
+      fair : Fair (state l.place l.sums l.header l.bycode);
+      room : Left l.way (length (chunks_exact_rest l.raw-iterator)) l.sums.records;
+      rest : left l.way (chunks_exact_rest l.raw-iterator) (state l.place l.sums l.header l.bycode) ≡ checked_of l.way l.file;
+    }

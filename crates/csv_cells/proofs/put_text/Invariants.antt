@@ -1,14 +1,7 @@
-use Rattle.csv_cells.specs.Cells.{filled_to}
+use Rattle.std.proofs.Common.{false}
 use Rattle.csv_cells.specs.Cells.{undoubled}
-use lib.Seq.{sets}
-use lib.ListN.{length, drop}
-use mathlib.Core.Bool.{false}
-use mathlib.Core.Path.{◌≡◌}
-use Prim.Native.Nat.{◌-◌, ◌≤◌}
+use Rattle.csv_cells.proofs.CellLaws.{Filled}
 use Rattle.csv_cells.proofs.put_text.Given as goal
 
-abbrev pub invariant-loop-j : goal.invariant-loop-j
-invariant-loop-j l = (l.i ≤ length l.inner) × (l.j ≤ length l.to) × (length l.to ≡ length l.initial.to) × (length (undoubled false (drop l.i l.inner)) ≤ length l.initial.to - l.j) × (sets l.to l.j (filled_to (length l.initial.to - l.j) (undoubled false (drop l.i l.inner))) ≡ filled_to (length l.initial.to) (undoubled false l.inner))
-
-abbrev pub decreases-loop-j : goal.decreases-loop-j
-decreases-loop-j l = length l.initial.to - l.j
+abbrev pub invariant-loop-b : goal.invariant-loop-b
+invariant-loop-b l = Filled l.to (undoubled false l.text.0.now) (undoubled false l.inner) l.b-index

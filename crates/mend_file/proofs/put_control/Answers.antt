@@ -5,9 +5,3 @@ use Rattle.mend_file.proofs.put_control.Goals as goal
 
 pub returns-then-old-ne56 : goal.returns-then-old-ne56
 returns-then-old-ne56 c = puts_none (row_nothing _ (control_none c.args.number c.args.old.now c.args.new.now c.if-old-ne56.true))
-
-pub put-requires : goal.put-requires
-put-requires c = (c.requires.0, c.requires.1, rw (control_eight c.args.number c.args.old.now c.args.new.now c.if-old-ne56.false) at c.requires.2)
-
-pub returns : goal.returns
-returns c = rw (control_eight c.args.number c.args.old.now c.args.new.now c.if-old-ne56.false) c.put.ensures

@@ -1,8 +1,6 @@
+use Rattle.std.proofs.Common.{length}
 use Rattle.mend_file.proofs.ListLaws.{Sizing}
 use Rattle.mend_file.proofs.walked.Given as goal
 
-abbrev pub invariant-loop-left : goal.invariant-loop-left
-invariant-loop-left l = Sizing l.way l.file l.sums l.header l.at l.left l.rows l.bytes
-
-abbrev pub decreases-loop-left : goal.decreases-loop-left
-decreases-loop-left l = l.left
+abbrev pub invariant-loop-raw : goal.invariant-loop-raw
+invariant-loop-raw l = Sizing l.fn.way l.file l.passed.sums l.passed.header (length l.yielded) l.listed.rows l.listed.bytes

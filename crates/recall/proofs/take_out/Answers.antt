@@ -1,24 +1,32 @@
-use Rattle.recall.proofs.OutLaws.{all_clear, asked_refused, out_refused}
-use Rattle.layout.specs.declared.Checked.{Checked}
-use lib.ListN.{length, length-replicate}
-use Prim.Native.Nat.{ℕ}
-use mathlib.Core.Path.{sym, ◌∙◌, ap}
+use mathlib.Core.Path.{refl, sym}
+use Rattle.std.specs.Prelude.{Ok}
+use Rattle.layout.specs.Answers.{checked_as}
+use Rattle.recall.specs.WorkReady.{AcceptedAs}
+use Rattle.recall.proofs.OutLaws.{body_told, told_few, new_accepted, new_room, out_granted, front_new, front_long, front_blanks}
 use Rattle.recall.proofs.take_out.Goals as goal
 
-pub returns-in-Refused : goal.returns-in-Refused
-returns-in-Refused c = out_refused c.args.way c.args.file.now c.args.entries.now c.args.rows.now c.in-Refused.refusal (asked_refused c.args.way c.args.file.now c.args.entries.now (length c.args.rows.now) c.in-Refused.refusal (ap (λ (k : Checked). k.answer) (sym c.check-checked.ensures) ∙ c.in-Refused.is))
+pub records_before-requires : goal.records_before-requires
+records_before-requires c =
+    let known : AcceptedAs c.args.way c.args.file.now (checked_as (Ok c.in_ok-accepted.accepted)) = record { told = c.in_ok-accepted.ensures; granted = refl } in
+    told_few c.args.way c.args.file.now _ known
 
-pub slice_bounds-take_listed-end : goal.slice_bounds-take_listed-end
-slice_bounds-take_listed-end c = sym (length-replicate {0} {A = ℕ} 125000 0)
+pub shorten-size-requires : goal.shorten-size-requires
+shorten-size-requires c =
+    let known : AcceptedAs c.args.way c.args.file.now (checked_as (Ok c.in_ok-accepted.accepted)) = record { told = c.in_ok-accepted.ensures; granted = refl } in
+    rw c.records_before.ensures (body_told c.args.way c.args.file.now _ known)
 
-pub take_listed-requires : goal.take_listed-requires
-take_listed-requires c = (record { told = c.check-checked.ensures; granted = c.in_default.is }, all_clear)
-
-pub shape_of-file : goal.shape_of-file
-shape_of-file c = c.take_listed.ensures.3
-
-pub shape_of-rows : goal.shape_of-rows
-shape_of-rows c = c.take_listed.ensures.4
+pub fill-requires : goal.fill-requires
+fill-requires c =
+    let g = sym c.in_ok-judge.ensures.0 in
+    let new = front_new c.args.way c.judge.new.flags c.args.file.now c.args.entries.now c.shorten-size.new.file c.shorten-size.result (c.in_ok-judge.ensures.1 refl) c.shorten-size.ensures.0 c.shorten-size.ensures.1 in
+    (new_accepted c.args.way c.args.file.now c.args.entries.now c.args.rows.now g _ new, new_room c.args.way c.args.file.now c.args.entries.now c.args.rows.now g _ new)
 
 pub returns : goal.returns
-returns c = (c.take_listed.ensures.0, c.take_listed.ensures.1, c.take_listed.ensures.2)
+returns c =
+    let g = sym c.in_ok-judge.ensures.0 in
+    let marks = c.in_ok-judge.ensures.1 refl in
+    let new = front_new c.args.way c.judge.new.flags c.args.file.now c.args.entries.now c.shorten-size.new.file c.shorten-size.result marks c.shorten-size.ensures.0 c.shorten-size.ensures.1 in
+    out_granted c.args.way c.args.file.now c.args.entries.now c.args.rows.now g _ new c.shorten-size.result c.shorten-size.new.file c.fill.new.rows
+    (front_long c.args.way c.judge.new.flags c.args.file.now c.args.entries.now c.shorten-size.new.file c.shorten-size.result marks c.shorten-size.ensures.0 c.shorten-size.ensures.1)
+    (front_blanks c.args.way c.judge.new.flags c.args.file.now c.args.entries.now c.shorten-size.new.file c.shorten-size.result marks c.shorten-size.ensures.0 c.shorten-size.ensures.1)
+    c.fill.ensures

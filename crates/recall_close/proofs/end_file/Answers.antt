@@ -1,7 +1,7 @@
 use Rattle.recall_close.proofs.PutLaws.{put_length}
 use Rattle.check_across.specs.declared.Sums.{Sums}
 use mathlib.Core.List.{[], ◌∷◌}
-use mathlib.Core.Path.{refl, ◌∙◌, ap}
+use mathlib.Core.Path.{◌∙◌, ap}
 use Rattle.recall_close.proofs.CloseLaws.{filling_room, filling_less, filling_next, filled_many, filled_whole, control_filling, ended}
 use Rattle.view.specs.View.{fillers_after}
 use lib.ListN.{length}
@@ -12,7 +12,7 @@ pub loop-so_far-init : goal.loop-so_far-init
 loop-so_far-init c = (control_filling c.args.way c.args.file.now _ c.file_control-control.result c.args.sums c.put-so_far.result c.file_control-control.ensures c.put-so_far.ensures.0 c.put-so_far.ensures.2 c.requires.2 c.put-so_far.ensures.1 c.requires.1, c.filler-filler.ensures)
 
 pub put-so_far-requires-in-loop-so_far : goal.put-so_far-requires-in-loop-so_far
-put-so_far-requires-in-loop-so_far c = (filling_room c.args.way _ _ c.loop-so_far.file c.loop-so_far.so_far c.loop-so_far.invariant.0 c.loop-so_far-test.true, rw c.loop-so_far.invariant.1 refl)
+put-so_far-requires-in-loop-so_far c = filling_room c.args.way _ _ c.loop-so_far.file c.loop-so_far.so_far c.loop-so_far.invariant.0 c.loop-so_far-test.true
 
 pub loop-so_far-smaller : goal.loop-so_far-smaller
 loop-so_far-smaller c = filling_less c.args.way _ _ c.loop-so_far.file c.loop-so_far.so_far c.loop-so_far.invariant.0 c.loop-so_far-test.true c.put-so_far-in-loop-so_far.result c.filler-filler.result c.put-so_far-in-loop-so_far.ensures.0

@@ -1,13 +1,6 @@
-use mathlib.Core.Path.{◌≡◌}
-use mathlib.Core.Bool.{◌&&◌}
-use Prim.Native.Nat.{◌≤◌, ◌-◌}
-use lib.Dec.{eqb}
-use lib.ListN.{length, drop}
-use Rattle.text.specs.Decimal.{every}
+use Rattle.std.proofs.Common.{◌≡◌, eqb, take}
+use Rattle.std.specs.List.{list_all}
 use Rattle.text.proofs.all_are.Given as goal
 
-abbrev pub invariant-loop-i : goal.invariant-loop-i
-invariant-loop-i l = (l.i ≤ length l.s) × ((l.all && every (λ x. eqb x l.b) (drop l.i l.s)) ≡ every (λ x. eqb x l.b) l.s)
-
-abbrev pub decreases-loop-i : goal.decreases-loop-i
-decreases-loop-i l = length l.s - l.i
+abbrev pub invariant-loop-x : goal.invariant-loop-x
+invariant-loop-x l = l.all ≡ list_all (λ x. eqb x l.b) (take l.x-index l.s)

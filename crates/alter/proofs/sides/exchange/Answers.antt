@@ -1,11 +1,15 @@
+use mathlib.Core.Path.{refl}
+use Rattle.std.proofs.lemmas.Result.{err_from_is_err_and}
+use Rattle.std.proofs.Common.{rules}
 use Rattle.alter.proofs.ExchangeLaws.{exchanged, not_exchanged}
-use mir.ValLaws.{to_z-of_z}
-use mir.Syntax.{w64}
-use mathlib.Core.Path.{◌∙◌}
 use Rattle.alter.proofs.sides.exchange.Goals as goal
 
-pub returns-in-Granted : goal.returns-in-Granted
-returns-in-Granted c = exchanged c.args.way c.args.file.now c.args.places c.args.side c.args.total c.args.old c.args.amount c.batch_total.result c.limits-answer.result c.batch_total.ensures c.limits-answer.ensures _ c.put.new.file c.in-Granted.is (to_z-of_z w64 c.difference.result (record { sfits = c.difference.type_inv }) ∙ c.difference.ensures) c.put.ensures
+pub returns : goal.returns
+returns c =
+    exchanged c.args.way c.args.file.now c.args.places c.args.side c.args.total c.args.old c.args.amount c.batch_total.result _ c.batch_total.ensures c.in_ok-limits.ensures _ c.put.new.file refl
+    (search rules) c.put.ensures
 
-pub returns-in-Refused : goal.returns-in-Refused
-returns-in-Refused c = not_exchanged c.args.way c.args.file.now c.args.places c.args.side c.args.total c.args.old c.args.amount c.batch_total.result c.limits-answer.result c.batch_total.ensures c.limits-answer.ensures _ c.in-Refused.is
+pub returns-in_err-limits : goal.returns-in_err-limits
+returns-in_err-limits c =
+    let p = err_from_is_err_and c.from_residual.result c.from_residual.ensures.1 in
+    rw (p.1, p.2) (not_exchanged c.args.way c.args.file.now c.args.places c.args.side c.args.total c.args.old c.args.amount c.batch_total.result _ c.batch_total.ensures c.in_err-limits.ensures _ refl)

@@ -1,15 +1,10 @@
-use Rattle.check_alone.proofs.OwnLaws.{pairs_start, pairs_turn, pairs_end}
-use native.Mathlib.Omega.{arith}
+use Rattle.std.proofs.Common.{◌&&◌, ◌∙◌, rules, tests}
+use Rattle.std.proofs.lemmas.Iterator.Consumers.{fold_from_yields_List}
+use Rattle.check_alone.proofs.OwnLaws.{yields_pairs, pairs_unbroken, stays}
 use Rattle.check_alone.proofs.own.unbroken.Goals as goal
 
-pub loop-i-init : goal.loop-i-init
-loop-i-init c = (omega arith, pairs_start _)
-
-pub overflow_sub-all : goal.overflow_sub-all
-overflow_sub-all c = omega (arith, c.loop-i.invariant.0)
-
-pub loop-i-preserved : goal.loop-i-preserved
-loop-i-preserved c = (omega arith, pairs_turn _ c.loop-i.i c.loop-i.all c.loop-i-test.true c.loop-i.invariant.1)
-
 pub returns : goal.returns
-returns c = pairs_end _ c.loop-i.i c.loop-i.all c.loop-i-test.false c.loop-i.invariant.1
+returns c =
+    fold_from_yields_List _ (λ a w. a && stays w) _ _ c.fold.ensures.ran
+    (yields_pairs c.args.p.now c.array_windows.ensures.rest c.array_windows.ensures.size) (λ a x b q k. search (rules, tests))
+    ∙ pairs_unbroken c.args.p.now

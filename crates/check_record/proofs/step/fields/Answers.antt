@@ -1,29 +1,22 @@
-use Rattle.check_record.proofs.Laws.{fields_right_lem, fields_wrong, fields_end, first_le, rows_few}
-use Rattle.layout.specs.Fields.{rows_of}
+use Rattle.check_record.proofs.Laws.{fields_right_lem, fields_wrong, fields_end, right_is, wrong_is}
+use Rattle.layout.specs.Fields.{first_field}
+use Rattle.check_record.specs.Verdict.{wrong_of}
+use Rattle.std.proofs.Common.{ℕ, Err, rules, is_ok}
+use Rattle.std.proofs.lemmas.Result.{err_from_is_err_and}
 use native.Mathlib.Omega.{arith}
-use mathlib.Core.Path.{sym, ◌∙◌}
+use Prim.Native.Nat.{◌+◌}
+use mathlib.Core.Path.{sym, ◌∙◌, ap}
 use Rattle.check_record.proofs.step.fields.Goals as goal
 
-pub walk_from-k-requires : goal.walk_from-k-requires
-walk_from-k-requires c = (c.requires.0, c.requires.1, c.said.ensures, c.requires.3)
-
-pub loop-k-init : goal.loop-k-init
-loop-k-init c = (c.walk_from-k.ensures.0, omega (arith, c.first_field-number.ensures, first_le c.args.line), rw c.first_field-number.ensures c.walk_from-k.ensures.1)
-
-pub field-requires : goal.field-requires
-field-requires c = c.requires
-
-pub returns-in-Wrong : goal.returns-in-Wrong
-returns-in-Wrong c = sym (fields_wrong (rows_of c.args.line) c.loop-k.k c.loop-k.number c.args.sums c.args.header.now c.args.rec.now c.in-Wrong.fault (omega (arith, c.loop-k-test.true, c.rows_in-count.ensures)) (sym c.field.ensures ∙ c.in-Wrong.is)) ∙ c.loop-k.invariant.2
-
-pub overflow_add-number : goal.overflow_add-number
-overflow_add-number c = record { fits = omega (arith, c.loop-k-test.true, c.rows_in-count.ensures, rows_few c.args.line, c.loop-k.invariant.1) }
-
-pub overflow_add-k : goal.overflow_add-k
-overflow_add-k c = record { fits = omega (arith, c.loop-k-test.true, c.rows_in-count.ensures, rows_few c.args.line) }
+pub returns-in_err-map_err : goal.returns-in_err-map_err
+returns-in_err-map_err c =
+    let p = err_from_is_err_and c.from_residual.result c.from_residual.ensures.1 in
+    let q = wrong_is c.field.result c.map_err.result c.in_err-map_err.field-0.0 (c.first_field.result + c.loop-k.k) (λ f d e. search rules) c.map_err.ensures.cases c.in_err-map_err.was in
+    let e = q.2 ∙ ap (λ (n : ℕ). wrong_of q.0 (n + c.loop-k.k)) c.first_field.ensures in
+    rw (p.1, p.2) (ap Err e ∙ sym (fields_wrong c.args.line c.loop-k.k c.args.sums c.args.header.now c.args.rec.now q.0 (omega arith) (sym c.field.ensures ∙ q.1)) ∙ c.loop-k.invariant)
 
 pub loop-k-preserved : goal.loop-k-preserved
-loop-k-preserved c = (omega (arith, c.loop-k-test.true, c.rows_in-count.ensures), omega (arith, c.loop-k.invariant.1), sym (fields_right_lem (rows_of c.args.line) c.loop-k.k c.loop-k.number c.args.sums c.args.header.now c.args.rec.now (omega (arith, c.loop-k-test.true, c.rows_in-count.ensures)) (sym c.field.ensures ∙ c.in_default.is)) ∙ c.loop-k.invariant.2)
+loop-k-preserved c = sym (fields_right_lem c.args.line c.loop-k.k c.args.sums c.args.header.now c.args.rec.now (omega arith) (sym c.field.ensures ∙ right_is c.field.result (sym c.map_err.ensures.variant ∙ ap is_ok c.in_ok-map_err.was))) ∙ c.loop-k.invariant
 
 pub returns : goal.returns
-returns c = sym (fields_end (rows_of c.args.line) c.loop-k.k c.loop-k.number c.args.sums c.args.header.now c.args.rec.now (omega (arith, c.loop-k-test.false, c.rows_in-count.ensures))) ∙ c.loop-k.invariant.2
+returns c = sym (fields_end c.args.line c.loop-k.k (first_field c.args.line + c.loop-k.k) c.args.sums c.args.header.now c.args.rec.now (omega arith)) ∙ c.loop-k.invariant

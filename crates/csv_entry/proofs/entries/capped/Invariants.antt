@@ -1,10 +1,6 @@
-use Rattle.csv_entry.proofs.AmountLaws.{Dollars}
-use lib.ListN.{length}
-use Prim.Native.Nat.{◌-◌}
+use Rattle.std.proofs.Common.{◌≡◌, ◌-◌, ◌^◌, take, min}
+use Rattle.text.specs.Decimal.{value}
 use Rattle.csv_entry.proofs.entries.capped.Given as goal
 
-abbrev pub invariant-loop-i : goal.invariant-loop-i
-invariant-loop-i l = Dollars l.s l.i l.n
-
-abbrev pub decreases-loop-i : goal.decreases-loop-i
-decreases-loop-i l = length l.s - l.i
+abbrev pub invariant-loop-b : goal.invariant-loop-b
+invariant-loop-b l = l.n ≡ min (value (take l.b-index l.digits)) (2 ^ 64 - 1)

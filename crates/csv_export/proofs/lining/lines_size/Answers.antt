@@ -1,32 +1,21 @@
-use Rattle.csv_export.proofs.LineLaws.{lines_size, lines_none, row_long}
-use lib.ListN.{length}
-use native.Mathlib.Omega.{arith}
-use mathlib.Core.Path.{ap}
+use Rattle.std.proofs.Common.{◌≡◌, ◌∙◌, length, ap, arith, rules, tests}
+use Rattle.std.specs.List.{sum_by}
+use Rattle.std.proofs.lemmas.Iterator.{YieldsList-from_slice}
+use Rattle.std.proofs.lemmas.Iterator.Adapters.{fits_from_length, at_most_from_yields_List}
+use Rattle.text.proofs.RowLaws.{length_rows}
+use Rattle.csv_export.specs.Lining.{line_of_row}
+use Rattle.csv_export.proofs.LineLaws.{rows_size, rows_short}
 use Rattle.csv_export.proofs.lining.lines_size.Goals as goal
 
-pub loop-left-init : goal.loop-left-init
-loop-left-init c = (c.requires.0, omega arith, omega arith)
-
-pub overflow_add-at : goal.overflow_add-at
-overflow_add-at c = record { fits = omega arith }
-
-pub line_size-size-requires : goal.line_size-size-requires
-line_size-size-requires c = row_long c.args.table.now c.loop-left.at (omega arith)
-
-pub overflow_add-size : goal.overflow_add-size
-overflow_add-size c = record { fits = omega (arith, c.line_size-size.ensures.1, c.requires.1) }
-
-pub overflow_add-at-in-loop-left : goal.overflow_add-at-in-loop-left
-overflow_add-at-in-loop-left c = record { fits = omega arith }
-
-pub overflow_sub-left : goal.overflow_sub-left
-overflow_sub-left c = omega arith
-
-pub loop-left-smaller : goal.loop-left-smaller
-loop-left-smaller c = omega arith
-
-pub loop-left-preserved : goal.loop-left-preserved
-loop-left-preserved c = (omega arith, omega (arith, c.line_size-size.ensures.1), omega (arith, c.line_size-size.ensures.0, lines_size c.args.table.now c.loop-left.at c.loop-left.left c.loop-left-test.true, c.loop-left.invariant.2))
+pub sum-requires-clause-fits : goal.sum-requires-clause-fits
+sum-requires-clause-fits c =
+    let many = ap length c.rows.ensures ∙ length_rows 93 c.args.entries _ in
+    fits_from_length _ _ 1000000 _ (at_most_from_yields_List (YieldsList-from_slice c.rows.result.now cc) (omega arith)) c.map.ensures.closure (omega arith)
+    (λ x r q k. search (rules, tests))
 
 pub returns : goal.returns
-returns c = (omega (arith, ap length (lines_none c.args.table.now c.loop-left.at c.loop-left.left c.loop-left-test.false), c.loop-left.invariant.2), omega (arith, c.loop-left.invariant.1, c.requires.1))
+returns c =
+    let many = ap length c.rows.ensures ∙ length_rows 93 c.args.entries _ in
+    let size : c.sum.result ≡ sum_by (λ row. length (line_of_row row)) c.rows.result.now = search rules in
+    let all = size ∙ rows_size c.rows.result.now in
+    (rw (← c.rows.ensures) all, omega (arith, all, rows_short c.rows.result.now, many))

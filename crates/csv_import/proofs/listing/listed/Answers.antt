@@ -1,38 +1,53 @@
-use Rattle.csv_import.proofs.WalkLaws.{from_here, walked_start, number_small, walked_fault, line_fits, walked_next, walked_end}
-use Rattle.csv_entry.specs.Entries.{line_verdict}
-use Rattle.csv_cells.specs.Cells.{line_size}
-use Rattle.view_laws.proofs.Answers.{not_granted}
-use mathlib.Core.Path.{◌≡◌}
-use native.Mathlib.Omega.{arith}
-use mathlib.Core.Path.{sym, ◌∙◌}
+use Rattle.std.specs.Prelude.{Err}
+use Rattle.std.proofs.Common.{◌≡◌, ◌+◌, ◌≤◌, rules, sym, ◌∙◌, ap, arith, length}
+use Rattle.std.proofs.lemmas.Result.{err_from_is_err_and}
+use Rattle.layout.specs.Answers.{answer_of}
+use Rattle.layout.specs.Paper.{refusal}
+use Rattle.check_record.specs.Verdict.{verdict_of}
+use Rattle.table_write.proofs.PassLaws.{mapped_ok, mapped_err}
+use Rattle.csv_import.proofs.WalkLaws.{counted_fewer, counted_wrong, counted_next, counted_end}
 use Rattle.csv_import.proofs.listing.listed.Goals as goal
 
-pub loop-at-init : goal.loop-at-init
-loop-at-init c = walked_start c.args.lines.now
-
-pub slice_bounds-tried-count : goal.slice_bounds-tried-count
-slice_bounds-tried-count c = c.loop-at.invariant.inside
-
-pub slice_bounds-tried-start : goal.slice_bounds-tried-start
-slice_bounds-tried-start c = c.loop-at.invariant.inside
-
 pub overflow_add-count : goal.overflow_add-count
-overflow_add-count c = record { fits = omega (arith, number_small c.loop-at.invariant c.loop-at-test.true) }
+overflow_add-count c =
+    let some : 1 ≤ length c.loop-rest.rest.now = search rules in
+    record { fits = omega (arith, counted_fewer c.loop-rest.invariant some) }
 
-pub returns-in-Failed : goal.returns-in-Failed
-returns-in-Failed c = (c.refused.ensures ∙ walked_fault c.loop-at.invariant c.loop-at-test.true c.in-Failed.fault c.in-Failed.k (sym (from_here (λ l. c.tried-line.result.verdict ≡ line_verdict l) c.args.lines.now c.loop-at.at c.tried-line.ensures.0) ∙ c.in-Failed.is), λ e. not_granted (sym c.refused.ensures ∙ e))
+pub returns-in_err-size-clause-answer : goal.returns-in_err-size-clause-answer
+returns-in_err-size-clause-answer c =
+    let q = err_from_is_err_and c.from_residual.result c.from_residual.ensures.1 in
+    let m = mapped_err _ c.tried-tried.result c.map_err.result c.in_err-size.field-0.0 c.map_err.ensures.cases c.in_err-size.was in
+    let told : Err c.in_err-size.field-0.0 ≡ refusal m.0.fault (c.loop-rest.count + 1) m.0.field = search rules in
+    let some : 1 ≤ length c.loop-rest.rest.now = search rules in
+    ap answer_of (q.1 ∙ ap Err q.2) ∙ told ∙ counted_wrong c.loop-rest.invariant some m.0 (sym c.tried-tried.ensures.verdict ∙ ap verdict_of m.1)
 
-pub overflow_add-at : goal.overflow_add-at
-overflow_add-at c = record { fits = omega (arith, (line_fits c.loop-at.invariant c.loop-at-test.true c.tried-line.result.size (sym (from_here (λ l. c.tried-line.result.verdict ≡ line_verdict l) c.args.lines.now c.loop-at.at c.tried-line.ensures.0) ∙ c.in_default.is) (from_here (λ l. c.tried-line.result.size ≡ line_size l) c.args.lines.now c.loop-at.at (c.tried-line.ensures.1 c.in_default.is))).1) }
+pub slice_bounds-rest-count : goal.slice_bounds-rest-count
+slice_bounds-rest-count c =
+    let some : 1 ≤ length c.loop-rest.rest.now = search rules in
+    (counted_next c.loop-rest.invariant some c.in_ok-size.size c.tried-tried.result (mapped_ok _ _ _ _ c.map_err.ensures.cases c.in_ok-size.was) c.tried-tried.ensures.verdict c.tried-tried.ensures.size).inside.1
 
-pub overflow_add-count-in-loop-at : goal.overflow_add-count-in-loop-at
-overflow_add-count-in-loop-at c = record { fits = omega (arith, number_small c.loop-at.invariant c.loop-at-test.true) }
+pub slice_bounds-rest-start : goal.slice_bounds-rest-start
+slice_bounds-rest-start c =
+    let some : 1 ≤ length c.loop-rest.rest.now = search rules in
+    (counted_next c.loop-rest.invariant some c.in_ok-size.size c.tried-tried.result (mapped_ok _ _ _ _ c.map_err.ensures.cases c.in_ok-size.was) c.tried-tried.ensures.verdict c.tried-tried.ensures.size).inside.1
 
-pub loop-at-smaller : goal.loop-at-smaller
-loop-at-smaller c = omega (arith, c.loop-at-test.true, (line_fits c.loop-at.invariant c.loop-at-test.true c.tried-line.result.size (sym (from_here (λ l. c.tried-line.result.verdict ≡ line_verdict l) c.args.lines.now c.loop-at.at c.tried-line.ensures.0) ∙ c.in_default.is) (from_here (λ l. c.tried-line.result.size ≡ line_size l) c.args.lines.now c.loop-at.at (c.tried-line.ensures.1 c.in_default.is))).0, (line_fits c.loop-at.invariant c.loop-at-test.true c.tried-line.result.size (sym (from_here (λ l. c.tried-line.result.verdict ≡ line_verdict l) c.args.lines.now c.loop-at.at c.tried-line.ensures.0) ∙ c.in_default.is) (from_here (λ l. c.tried-line.result.size ≡ line_size l) c.args.lines.now c.loop-at.at (c.tried-line.ensures.1 c.in_default.is))).1)
+pub loop-rest-smaller : goal.loop-rest-smaller
+loop-rest-smaller c =
+    let some : 1 ≤ length c.loop-rest.rest.now = search rules in
+    (counted_next c.loop-rest.invariant some c.in_ok-size.size c.tried-tried.result (mapped_ok _ _ _ _ c.map_err.ensures.cases c.in_ok-size.was) c.tried-tried.ensures.verdict c.tried-tried.ensures.size).fewer
 
-pub loop-at-preserved : goal.loop-at-preserved
-loop-at-preserved c = walked_next c.loop-at.invariant c.loop-at-test.true c.tried-line.result.size (sym (from_here (λ l. c.tried-line.result.verdict ≡ line_verdict l) c.args.lines.now c.loop-at.at c.tried-line.ensures.0) ∙ c.in_default.is) (from_here (λ l. c.tried-line.result.size ≡ line_size l) c.args.lines.now c.loop-at.at (c.tried-line.ensures.1 c.in_default.is))
+pub loop-rest-preserved : goal.loop-rest-preserved
+loop-rest-preserved c =
+    let some : 1 ≤ length c.loop-rest.rest.now = search rules in
+    (counted_next c.loop-rest.invariant some c.in_ok-size.size c.tried-tried.result (mapped_ok _ _ _ _ c.map_err.ensures.cases c.in_ok-size.was) c.tried-tried.ensures.verdict c.tried-tried.ensures.size).counted
 
-pub returns : goal.returns
-returns c = ((walked_end c.loop-at.invariant c.loop-at-test.false).0, λ e. omega (arith, (walked_end c.loop-at.invariant c.loop-at-test.false).1))
+pub invariant_of-result : goal.invariant_of-result
+invariant_of-result c =
+    let none : length c.loop-rest.rest.now ≤ 0 = search rules in
+    let e = counted_end c.loop-rest.invariant none in
+    record { right = sym e.0; counted = e.1 }
+
+pub returns-clause-answer : goal.returns-clause-answer
+returns-clause-answer c =
+    let none : length c.loop-rest.rest.now ≤ 0 = search rules in
+    (counted_end c.loop-rest.invariant none).0

@@ -1,10 +1,9 @@
-use Rattle.csv_import.proofs.WalkLaws.{Walked}
 use lib.ListN.{length}
-use Prim.Native.Nat.{◌+◌, ◌-◌}
+use Rattle.csv_import.proofs.WalkLaws.{Counted}
 use Rattle.csv_import.proofs.listing.listed.Given as goal
 
-abbrev pub invariant-loop-at : goal.invariant-loop-at
-invariant-loop-at l = Walked l.lines (l.count + 1) l.at
+abbrev pub invariant-loop-rest : goal.invariant-loop-rest
+invariant-loop-rest l = Counted l.lines l.rest l.count
 
-abbrev pub decreases-loop-at : goal.decreases-loop-at
-decreases-loop-at l = length l.lines - l.at
+abbrev pub decreases-loop-rest : goal.decreases-loop-rest
+decreases-loop-rest l = length l.rest

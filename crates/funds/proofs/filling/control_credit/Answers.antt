@@ -1,4 +1,4 @@
-use Rattle.find_entry.proofs.Parts.{cut_out_lem, on, counted, record_part}
+use Rattle.find_entry.proofs.Parts.{cut_out_lem, counted, record_part}
 use Rattle.text.specs.Decimal.{value}
 use lib.ListN.{length, take, drop}
 use lib.Dec.{lit≤}
@@ -6,18 +6,6 @@ use native.Mathlib.Omega.{arith}
 use Prim.Native.Nat.{◌+◌, ◌*◌}
 use mathlib.Core.Path.{sym, ◌∙◌, ap}
 use Rattle.funds.proofs.filling.control_credit.Goals as goal
-
-pub overflow_mul-at : goal.overflow_mul-at
-overflow_mul-at c = rw c.record_bytes.ensures (record { fits = omega (arith, c.requires, on c.args.way c.args.i) })
-
-pub overflow_add-at : goal.overflow_add-at
-overflow_add-at c = rw c.record_bytes.ensures (record { fits = omega (arith, c.requires, on c.args.way c.args.i) })
-
-pub overflow_add-at-2 : goal.overflow_add-at-2
-overflow_add-at-2 c = rw c.record_bytes.ensures (record { fits = omega (arith, c.requires, on c.args.way c.args.i) })
-
-pub slice_bounds-number-end : goal.slice_bounds-number-end
-slice_bounds-number-end c = rw c.record_bytes.ensures (omega (arith, c.requires, on c.args.way c.args.i))
 
 pub returns : goal.returns
 returns c = c.number.ensures ∙ ap value (cut_out_lem c.args.file.now (c.record_bytes.result * c.args.i + 32) 12) ∙ ap (λ w. value (take 12 (drop (w * c.args.i + 32) c.args.file.now))) c.record_bytes.ensures ∙ ap value (sym (record_part c.args.way c.args.file.now c.args.i (omega (arith, counted c.args.way (length c.args.file.now) (c.args.i + 1) (c.requires))) 32 12 (lit≤ tt)))

@@ -1,12 +1,10 @@
-use lib.ListN.{length}
+use Rattle.view.specs.View.{view_of}
+use Rattle.funds.specs.Funds.{rows_of}
+use Rattle.funds.specs.WorkRows.{left_of}
 use Rattle.funds.proofs.WalkLaws.{Filling}
-use Rattle.layout.specs.Ways.{record_bytes}
-use lib.ListN.{length}
-use Prim.Native.Nat.{◌-◌, ◌/◌}
 use Rattle.funds.proofs.filling.fill.Given as goal
 
-abbrev pub invariant-loop-i : goal.invariant-loop-i
-invariant-loop-i l = Filling l.way l.file l.initial.rows l.i l.credits l.put l.rows
-
-abbrev pub decreases-loop-i : goal.decreases-loop-i
-decreases-loop-i l = length l.file / record_bytes l.way - l.i
+abbrev pub invariant-loop-row : goal.invariant-loop-row
+invariant-loop-row l =
+    (goal.iterator-loop-row).can_next l.row-iterator × (goal.iterator-loop-row).is_finite l.row-iterator
+    × Filling (rows_of (view_of l.fn.way l.fn.file)) l.initial.rows (left_of l.row-iterator.way l.row-iterator.file.now l.row-iterator.seen l.row-iterator.credits) l.put l.rows

@@ -1,10 +1,9 @@
+use Rattle.std.proofs.Common.{arith}
 use Rattle.mend_file.proofs.FieldLaws.{field_same, field_differs, none_listed, one_listed}
-use native.Mathlib.Omega.{arith}
-use mathlib.Core.Path.{sym, ◌∙◌}
 use Rattle.mend_file.proofs.fields.field_listed.Goals as goal
 
-pub returns-then-same : goal.returns-then-same
-returns-then-same c = (none_listed _ (field_same c.args.row c.args.old.now c.args.new.now c.span_of-at.result.from c.span_of-at.result.end c.span_of-at.ensures.0 c.span_of-at.ensures.1 (sym c.same.ensures ∙ c.if-same.true) 0 1), omega arith, omega arith)
+pub returns-then-eq : goal.returns-then-eq
+returns-then-eq c = (none_listed _ (field_same 0 1 c.args.row c.args.old.now c.args.new.now _ _ c.field_text-was.ensures.0 c.field_text-is.ensures.0 c.eq.result c.eq.ensures c.if-eq.true), omega arith, omega arith)
 
 pub returns : goal.returns
-returns c = (one_listed _ 0 1 c.span_of-at.result.from c.span_of-at.result.end c.args.old.now c.args.new.now c.span_of-at.ensures.2 c.span_of-at.ensures.3 c.requires.1 c.requires.2 (field_differs c.args.row c.args.old.now c.args.new.now c.span_of-at.result.from c.span_of-at.result.end c.span_of-at.ensures.0 c.span_of-at.ensures.1 (sym c.same.ensures ∙ c.if-same.false) 0 1), omega arith, omega (arith, c.span_of-at.ensures.3))
+returns c = (one_listed _ 0 1 _ _ (field_differs 0 1 c.args.row c.args.old.now c.args.new.now _ _ c.field_text-was.ensures.0 c.field_text-is.ensures.0 c.eq.result c.eq.ensures c.if-eq.false), omega arith, omega (arith, c.field_text-was.ensures.1, c.field_text-is.ensures.1))

@@ -1,61 +1,61 @@
-use Rattle.mend_file.proofs.TurnLaws.{begun, judged_short, judged_failed, turn, judged_nine, nine_found}
-use Rattle.mend_file.proofs.JudgeLaws.{along}
-use Rattle.view_laws.proofs.BridgeSound.{refused_not}
-use Rattle.check_record.proofs.Ways.{some_bytes, raw_long}
-use Rattle.layout.specs.declared.Fault.{Fault}
-use lib.ListN.{length, take, drop}
-use native.Mathlib.Omega.{arith}
-use Prim.Native.Nat.{◌+◌, ◌-◌}
-use mathlib.Core.Path.{sym, ◌∙◌, ap}
+use Rattle.std.proofs.Common.{◌+◌, length, refl, sym, ap, ◌∙◌, arith, rules, Ok, Err}
+use Rattle.std.proofs.lemmas.Result.{err_from_is_err_and}
+use Rattle.std.proofs.lemmas.List.{length_push}
+use Rattle.layout.specs.Paper.{refusal}
+use Rattle.mend_file.proofs.RecordLaws.{at_long, record_turn, record_end}
+use Rattle.mend_file.proofs.WalkLaws.{records_few}
+use Rattle.mend_file.proofs.TurnLaws.{wrong_is, right_is, begun, judged_failed, judged_on, judged_nine, judged_there, judged_short}
 use Rattle.mend_file.proofs.judging.judged.Goals as goal
 
-pub loop-at-init : goal.loop-at-init
-loop-at-init c = begun c.args.way c.args.file.now c.start-st.result (c.requires) c.start-st.ensures.0 c.start-st.ensures.1
+pub loop-i-init : goal.loop-i-init
+loop-i-init c = begun c.args.way c.args.file.now c.start-st.result c.requires c.start-st.ensures.0 c.start-st.ensures.1
 
-pub overflow_add-sums : goal.overflow_add-sums
-overflow_add-sums c = record { fits = omega (arith, c.loop-at.invariant.fair.sums.few) }
+pub control_step-requires : goal.control_step-requires
+control_step-requires c =
+    let turn = record_turn c.args.way c.args.file.now c.into_iter-i-iterator.result (cc) (cc c.record_bytes.ensures) (cc) c.loop-i.yielded _ c.loop-i.yielded_by _ _ c.next.ensures.steps (c.in-Some.i, c.in-Some.raw) c.in-Some.is in
+    (c.loop-i.invariant.fair, omega (arith, c.loop-i.invariant.walk.count, turn.1.inside, records_few c.args.way c.args.file.now c.requires), at_long c.args.way c.args.file.now (length c.loop-i.yielded) c.in-Some.raw.now turn.1)
 
-pub returns-then-at-size : goal.returns-then-at-size
-returns-then-at-size c = (c.refused.ensures ∙ judged_short c.args.way c.args.file.now c.loop-at.st c.loop-at.last c.loop-at.at c.loop-at.invariant (omega (arith, c.if-at-size.true)), λ e. refused_not Fault.Ended (c.loop-at.st.sums.records + 1) 0 (sym c.refused.ensures ∙ e))
+pub returns-in_err-map_err-clause-answer : goal.returns-in_err-map_err-clause-answer
+returns-in_err-map_err-clause-answer c =
+    let turn = record_turn c.args.way c.args.file.now c.into_iter-i-iterator.result (cc) (cc c.record_bytes.ensures) (cc) c.loop-i.yielded _ c.loop-i.yielded_by _ _ c.next.ensures.steps (c.in-Some.i, c.in-Some.raw) c.in-Some.is in
+    let told = err_from_is_err_and c.from_residual.result c.from_residual.ensures.1 in
+    let wrong = wrong_is (c.in-Some.i + 1) (λ w r k. search rules) c.control_step.result c.map_err.result c.in_err-map_err.field-0.0 c.map_err.ensures.cases c.in_err-map_err.was in
+    rw (told.1, told.2)
+    (wrong.2 ∙ ap (λ n. refusal wrong.0.fault (n + 1) wrong.0.field) turn.0
+    ∙ judged_nine c.args.way c.args.file.now c.loop-i.st c.loop-i.last (length c.loop-i.yielded) c.loop-i.invariant c.in-Some.raw.now turn.1 (Err wrong.0) c.loop-i.st (rw wrong.1 at c.control_step.ensures.step) (sym c.ends_file.ensures ∙ c.if-ends_file.true))
 
-pub overflow_add-raw : goal.overflow_add-raw
-overflow_add-raw c = record { fits = omega (arith, c.record_bytes.ensures, (along c.args.way c.args.file.now c.loop-at.at c.loop-at.st.sums.records (c.requires) c.loop-at.invariant.place c.loop-at.invariant.inside c.if-at-size.false).room, (along c.args.way c.args.file.now c.loop-at.at c.loop-at.st.sums.records (c.requires) c.loop-at.invariant.place c.loop-at.invariant.inside c.if-at-size.false).short) }
+pub returns-then-ends_file-clause-answer : goal.returns-then-ends_file-clause-answer
+returns-then-ends_file-clause-answer c =
+    let turn = record_turn c.args.way c.args.file.now c.into_iter-i-iterator.result (cc) (cc c.record_bytes.ensures) (cc) c.loop-i.yielded _ c.loop-i.yielded_by _ _ c.next.ensures.steps (c.in-Some.i, c.in-Some.raw) c.in-Some.is in
+    let passed = right_is _ c.control_step.result c.map_err.result c.in_ok-map_err.field-0 c.map_err.ensures.cases c.in_ok-map_err.was in
+    judged_nine c.args.way c.args.file.now c.loop-i.st c.loop-i.last (length c.loop-i.yielded) c.loop-i.invariant c.in-Some.raw.now turn.1 (Ok tt) c.in_ok-map_err.field-0 (rw passed at c.control_step.ensures.step) (sym c.ends_file.ensures ∙ c.if-ends_file.true)
 
-pub slice_bounds-raw-count : goal.slice_bounds-raw-count
-slice_bounds-raw-count c = omega arith
+pub returns-then-ends_file-clause-before : goal.returns-then-ends_file-clause-before
+returns-then-ends_file-clause-before c =
+    let turn = record_turn c.args.way c.args.file.now c.into_iter-i-iterator.result (cc) (cc c.record_bytes.ensures) (cc) c.loop-i.yielded _ c.loop-i.yielded_by _ _ c.next.ensures.steps (c.in-Some.i, c.in-Some.raw) c.in-Some.is in
+    rw turn.0 (judged_there c.args.way c.args.file.now c.loop-i.st c.loop-i.last (length c.loop-i.yielded) c.loop-i.invariant c.in-Some.raw.now turn.1 (sym c.ends_file.ensures ∙ c.if-ends_file.true))
 
-pub slice_bounds-raw-start : goal.slice_bounds-raw-start
-slice_bounds-raw-start c = omega arith
+pub mended_step-requires : goal.mended_step-requires
+mended_step-requires c =
+    let turn = record_turn c.args.way c.args.file.now c.into_iter-i-iterator.result (cc) (cc c.record_bytes.ensures) (cc) c.loop-i.yielded _ c.loop-i.yielded_by _ _ c.next.ensures.steps (c.in-Some.i, c.in-Some.raw) c.in-Some.is in
+    (c.loop-i.invariant.fair, omega (arith, c.loop-i.invariant.walk.count, turn.1.inside, records_few c.args.way c.args.file.now c.requires), at_long c.args.way c.args.file.now (length c.loop-i.yielded) c.in-Some.raw.now turn.1)
 
-pub slice_bounds-raw-end : goal.slice_bounds-raw-end
-slice_bounds-raw-end c = omega (arith, c.record_bytes.ensures, (along c.args.way c.args.file.now c.loop-at.at c.loop-at.st.sums.records (c.requires) c.loop-at.invariant.place c.loop-at.invariant.inside c.if-at-size.false).room)
+pub returns-in_err-st-clause-answer : goal.returns-in_err-st-clause-answer
+returns-in_err-st-clause-answer c =
+    let turn = record_turn c.args.way c.args.file.now c.into_iter-i-iterator.result (cc) (cc c.record_bytes.ensures) (cc) c.loop-i.yielded _ c.loop-i.yielded_by _ _ c.next.ensures.steps (c.in-Some.i, c.in-Some.raw) c.in-Some.is in
+    let told = err_from_is_err_and c.from_residual-in_err-st.result c.from_residual-in_err-st.ensures.1 in
+    let wrong = wrong_is (c.in-Some.i + 1) (λ w r k. search rules) c.mended_step.result c.map_err-in-loop-i.result c.in_err-st.field-0.0 c.map_err-in-loop-i.ensures.cases c.in_err-st.was in
+    rw (told.1, told.2)
+    (wrong.2 ∙ ap (λ n. refusal wrong.0.fault (n + 1) wrong.0.field) turn.0 ∙ judged_failed c.args.way c.args.file.now c.loop-i.st c.loop-i.last (length c.loop-i.yielded) c.loop-i.invariant c.in-Some.raw.now turn.1 wrong.0 (rw wrong.1 at c.mended_step.ensures.step) (sym c.ends_file.ensures ∙ c.if-ends_file.false))
 
-pub bounds-raw-0 : goal.bounds-raw-0
-bounds-raw-0 c = omega (arith, some_bytes c.args.way, (ap length (ap (λ w. take (c.loop-at.at + w - c.loop-at.at) (drop c.loop-at.at c.args.file.now)) c.record_bytes.ensures) ∙ raw_long c.args.way c.args.file.now c.loop-at.at (along c.args.way c.args.file.now c.loop-at.at c.loop-at.st.sums.records (c.requires) c.loop-at.invariant.place c.loop-at.invariant.inside c.if-at-size.false).room))
+pub loop-i-preserved : goal.loop-i-preserved
+loop-i-preserved c =
+    let turn = record_turn c.args.way c.args.file.now c.into_iter-i-iterator.result (cc) (cc c.record_bytes.ensures) (cc) c.loop-i.yielded _ c.loop-i.yielded_by _ _ c.next.ensures.steps (c.in-Some.i, c.in-Some.raw) c.in-Some.is in
+    let passed = right_is _ c.mended_step.result c.map_err-in-loop-i.result c.in_ok-st.st c.map_err-in-loop-i.ensures.cases c.in_ok-st.was in
+    rw (length_push c.loop-i.yielded (c.in-Some.i, c.in-Some.raw))
+    (judged_on c.args.way c.args.file.now c.loop-i.st c.loop-i.last (length c.loop-i.yielded) c.loop-i.invariant c.in-Some.raw.now turn.1 c.in_ok-st.st (rw passed at c.mended_step.ensures.step) (sym c.ends_file.ensures ∙ c.if-ends_file.false) (rw passed at c.mended_step.ensures.fair))
 
-pub control_step-ended-requires : goal.control_step-ended-requires
-control_step-ended-requires c = (c.loop-at.invariant.fair, (along c.args.way c.args.file.now c.loop-at.at c.loop-at.st.sums.records (c.requires) c.loop-at.invariant.place c.loop-at.invariant.inside c.if-at-size.false).few, (ap length (ap (λ w. take (c.loop-at.at + w - c.loop-at.at) (drop c.loop-at.at c.args.file.now)) c.record_bytes.ensures) ∙ raw_long c.args.way c.args.file.now c.loop-at.at (along c.args.way c.args.file.now c.loop-at.at c.loop-at.st.sums.records (c.requires) c.loop-at.invariant.place c.loop-at.invariant.inside c.if-at-size.false).room), c.table-groups.ensures)
-
-pub overflow_add-sums-then-ends_file : goal.overflow_add-sums-then-ends_file
-overflow_add-sums-then-ends_file c = record { fits = omega (arith, (along c.args.way c.args.file.now c.loop-at.at c.loop-at.st.sums.records (c.requires) c.loop-at.invariant.place c.loop-at.invariant.inside c.if-at-size.false).few) }
-
-pub returns-then-ends_file : goal.returns-then-ends_file
-returns-then-ends_file c = (c.answered.ensures ∙ judged_nine c.args.way c.args.file.now c.loop-at.st c.loop-at.last c.loop-at.at (take (c.loop-at.at + c.record_bytes.result - c.loop-at.at) (drop c.loop-at.at c.args.file.now)) (ap (λ w. take (c.loop-at.at + w - c.loop-at.at) (drop c.loop-at.at c.args.file.now)) c.record_bytes.ensures) (along c.args.way c.args.file.now c.loop-at.at c.loop-at.st.sums.records (c.requires) c.loop-at.invariant.place c.loop-at.invariant.inside c.if-at-size.false) c.loop-at.invariant c.control_step-ended.result c.control_step-ended.ensures.0 (sym c.ends_file.ensures ∙ c.if-ends_file.true), λ e. nine_found c.args.way c.args.file.now c.loop-at.st c.loop-at.last c.loop-at.at (take (c.loop-at.at + c.record_bytes.result - c.loop-at.at) (drop c.loop-at.at c.args.file.now)) (ap (λ w. take (c.loop-at.at + w - c.loop-at.at) (drop c.loop-at.at c.args.file.now)) c.record_bytes.ensures) (along c.args.way c.args.file.now c.loop-at.at c.loop-at.st.sums.records (c.requires) c.loop-at.invariant.place c.loop-at.invariant.inside c.if-at-size.false) c.loop-at.invariant (sym c.ends_file.ensures ∙ c.if-ends_file.true))
-
-pub mended_step-tried-requires : goal.mended_step-tried-requires
-mended_step-tried-requires c = (c.loop-at.invariant.fair, (along c.args.way c.args.file.now c.loop-at.at c.loop-at.st.sums.records (c.requires) c.loop-at.invariant.place c.loop-at.invariant.inside c.if-at-size.false).few, (ap length (ap (λ w. take (c.loop-at.at + w - c.loop-at.at) (drop c.loop-at.at c.args.file.now)) c.record_bytes.ensures) ∙ raw_long c.args.way c.args.file.now c.loop-at.at (along c.args.way c.args.file.now c.loop-at.at c.loop-at.st.sums.records (c.requires) c.loop-at.invariant.place c.loop-at.invariant.inside c.if-at-size.false).room), c.table-groups.ensures)
-
-pub overflow_add-sums-in-Failed : goal.overflow_add-sums-in-Failed
-overflow_add-sums-in-Failed c = record { fits = omega (arith, (along c.args.way c.args.file.now c.loop-at.at c.loop-at.st.sums.records (c.requires) c.loop-at.invariant.place c.loop-at.invariant.inside c.if-at-size.false).few) }
-
-pub returns-in-Failed : goal.returns-in-Failed
-returns-in-Failed c = (c.refused-in-Failed.ensures ∙ judged_failed c.args.way c.args.file.now c.loop-at.st c.loop-at.last c.loop-at.at (take (c.loop-at.at + c.record_bytes.result - c.loop-at.at) (drop c.loop-at.at c.args.file.now)) (ap (λ w. take (c.loop-at.at + w - c.loop-at.at) (drop c.loop-at.at c.args.file.now)) c.record_bytes.ensures) (along c.args.way c.args.file.now c.loop-at.at c.loop-at.st.sums.records (c.requires) c.loop-at.invariant.place c.loop-at.invariant.inside c.if-at-size.false) c.loop-at.invariant c.mended_step-tried.result c.in-Failed.fault c.in-Failed.k c.mended_step-tried.ensures.0 (sym c.ends_file.ensures ∙ c.if-ends_file.false) c.in-Failed.is, λ e. refused_not c.in-Failed.fault (c.loop-at.st.sums.records + 1) c.in-Failed.k (sym c.refused-in-Failed.ensures ∙ e))
-
-pub overflow_add-at : goal.overflow_add-at
-overflow_add-at c = record { fits = omega (arith, c.record_bytes-at.ensures, (along c.args.way c.args.file.now c.loop-at.at c.loop-at.st.sums.records (c.requires) c.loop-at.invariant.place c.loop-at.invariant.inside c.if-at-size.false).room, (along c.args.way c.args.file.now c.loop-at.at c.loop-at.st.sums.records (c.requires) c.loop-at.invariant.place c.loop-at.invariant.inside c.if-at-size.false).short) }
-
-pub loop-at-smaller : goal.loop-at-smaller
-loop-at-smaller c = omega (arith, c.record_bytes-at.ensures, some_bytes c.args.way, (along c.args.way c.args.file.now c.loop-at.at c.loop-at.st.sums.records (c.requires) c.loop-at.invariant.place c.loop-at.invariant.inside c.if-at-size.false).room)
-
-pub loop-at-preserved : goal.loop-at-preserved
-loop-at-preserved c = rw c.record_bytes-at.ensures (turn c.args.way c.args.file.now c.loop-at.st c.loop-at.last c.loop-at.at (take (c.loop-at.at + c.record_bytes.result - c.loop-at.at) (drop c.loop-at.at c.args.file.now)) (ap (λ w. take (c.loop-at.at + w - c.loop-at.at) (drop c.loop-at.at c.args.file.now)) c.record_bytes.ensures) (along c.args.way c.args.file.now c.loop-at.at c.loop-at.st.sums.records (c.requires) c.loop-at.invariant.place c.loop-at.invariant.inside c.if-at-size.false) c.loop-at.invariant c.mended_step-tried.result c.mended_step-tried.ensures.0 (sym c.ends_file.ensures ∙ c.if-ends_file.false) c.in_default.is c.mended_step-tried.ensures.1)
+pub returns-clause-answer : goal.returns-clause-answer
+returns-clause-answer c =
+    let all = record_end c.args.way c.args.file.now c.into_iter-i-iterator.result (cc) (cc c.record_bytes.ensures) (cc) c.loop-i.yielded _ c.loop-i.yielded_by _ _ c.next.ensures.steps c.in-None.is in
+    c.at.ensures ∙ judged_short c.args.way c.args.file.now c.loop-i.st c.loop-i.last (length c.loop-i.yielded) c.loop-i.invariant (omega (arith, all))

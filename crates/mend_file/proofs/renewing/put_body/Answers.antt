@@ -1,53 +1,38 @@
-use Rattle.mend_file.proofs.PutLaws.{put_first, put_inside, put_room, put_few, put_on, put_end, put_long}
-use lib.Seq.{length-take-le}
-use Rattle.check_record.proofs.Ways.{raw_long}
-use lib.ListN.{length, take, drop}
-use native.Mathlib.Omega.{arith}
-use Prim.Native.Nat.{◌+◌, ◌-◌}
-use mathlib.Core.Path.{sym, ◌∙◌, ap}
+use Rattle.std.proofs.Common.{◌+◌, ◌*◌, length, ap, ◌∙◌, arith}
+use Rattle.std.proofs.lemmas.List.{length_push}
+use lib.Seq.{sets}
+use Rattle.layout.specs.Ways.{record_bytes}
+use Rattle.mend.specs.Mend.{sums_past, header_past}
+use Rattle.mend_file.proofs.RecordLaws.{at_long, record_least, nth_turn, nth_end}
+use Rattle.mend_file.proofs.WalkLaws.{nine_inside, nine_few}
+use Rattle.mend_file.proofs.PutLaws.{put_room, put_on, put_end}
 use Rattle.mend_file.proofs.renewing.put_body.Goals as goal
 
-pub loop-left-init : goal.loop-left-init
-loop-left-init c = put_first c.args.way c.args.file.now c.args.mended.now c.start-st.result c.args.before c.start-st.ensures.0 c.start-st.ensures.1 c.requires.1 c.requires.2
-
-pub overflow_add-raw : goal.overflow_add-raw
-overflow_add-raw c = record { fits = omega (arith, c.record_bytes-wide.ensures, put_inside c.args.way c.args.file.now c.args.mended.now c.args.before c.requires.1 c.loop-left.sums c.loop-left.header c.loop-left.mended c.loop-left.at c.loop-left.left c.loop-left.invariant) }
-
-pub slice_bounds-raw-count : goal.slice_bounds-raw-count
-slice_bounds-raw-count c = omega arith
-
-pub slice_bounds-raw-start : goal.slice_bounds-raw-start
-slice_bounds-raw-start c = omega arith
-
-pub slice_bounds-raw-end : goal.slice_bounds-raw-end
-slice_bounds-raw-end c = omega (arith, c.record_bytes-wide.ensures, put_inside c.args.way c.args.file.now c.args.mended.now c.args.before c.requires.1 c.loop-left.sums c.loop-left.header c.loop-left.mended c.loop-left.at c.loop-left.left c.loop-left.invariant)
-
-pub slice_bounds-put_record-end : goal.slice_bounds-put_record-end
-slice_bounds-put_record-end c = sym c.loop-left.invariant.1.walk.header
-
 pub put_record-requires : goal.put_record-requires
-put_record-requires c = (c.loop-left.invariant.1.walk.header, omega (arith, (ap length (ap (λ w. take (c.loop-left.at + w - c.loop-left.at) (drop c.loop-left.at c.args.file.now)) c.record_bytes-wide.ensures) ∙ raw_long c.args.way c.args.file.now c.loop-left.at (put_inside c.args.way c.args.file.now c.args.mended.now c.args.before c.requires.1 c.loop-left.sums c.loop-left.header c.loop-left.mended c.loop-left.at c.loop-left.left c.loop-left.invariant))), omega (arith, (ap length (ap (λ w. take (c.loop-left.at + w - c.loop-left.at) (drop c.loop-left.at c.args.file.now)) c.record_bytes-wide.ensures) ∙ raw_long c.args.way c.args.file.now c.loop-left.at (put_inside c.args.way c.args.file.now c.args.mended.now c.args.before c.requires.1 c.loop-left.sums c.loop-left.header c.loop-left.mended c.loop-left.at c.loop-left.left c.loop-left.invariant)), put_room c.args.way c.args.file.now c.args.mended.now c.args.before c.requires.1 c.loop-left.sums c.loop-left.header c.loop-left.mended c.loop-left.at c.loop-left.left c.loop-left.invariant c.loop-left-test.true))
+put_record-requires c =
+    let turn = nth_turn c.args.way c.args.file.now c.args.before c.into_iter-i-iterator.result (cc) (cc c.record_bytes-wide.ensures) (cc) (cc) c.loop-i.yielded _ c.loop-i.yielded_by _ _ c.next.ensures.steps (c.in-Some.i, c.in-Some.raw) c.in-Some.is in
+    let long = at_long c.args.way c.args.file.now (length c.loop-i.yielded) c.in-Some.raw.now turn.2 in
+    (omega (arith, long, record_least c.args.way), rw (turn.0, c.record_bytes-wide.ensures) (put_room c.args.way c.args.file.now c.args.mended.now c.loop-i.passed.sums c.loop-i.passed.header c.loop-i.mended (length c.loop-i.yielded) c.loop-i.invariant c.in-Some.raw.now turn.2 (omega (arith, turn.1, c.requires.1.before)) c.requires.2))
 
-pub slice_bounds-columns-end : goal.slice_bounds-columns-end
-slice_bounds-columns-end c = omega (arith, (ap length (ap (λ w. take (c.loop-left.at + w - c.loop-left.at) (drop c.loop-left.at c.args.file.now)) c.record_bytes-wide.ensures) ∙ raw_long c.args.way c.args.file.now c.loop-left.at (put_inside c.args.way c.args.file.now c.args.mended.now c.args.before c.requires.1 c.loop-left.sums c.loop-left.header c.loop-left.mended c.loop-left.at c.loop-left.left c.loop-left.invariant)))
+pub chunk-requires : goal.chunk-requires
+chunk-requires c =
+    let turn = nth_turn c.args.way c.args.file.now c.args.before c.into_iter-i-iterator.result (cc) (cc c.record_bytes-wide.ensures) (cc) (cc) c.loop-i.yielded _ c.loop-i.yielded_by _ _ c.next.ensures.steps (c.in-Some.i, c.in-Some.raw) c.in-Some.is in
+    let long = at_long c.args.way c.args.file.now (length c.loop-i.yielded) c.in-Some.raw.now turn.2 in
+    (omega arith, omega (arith, long, record_least c.args.way))
 
-pub sums_past-sums-requires : goal.sums_past-sums-requires
-sums_past-sums-requires c = (c.loop-left.invariant.1.walk.small, put_few c.args.way c.args.file.now c.args.mended.now c.args.before c.requires.1 c.loop-left.sums c.loop-left.header c.loop-left.mended c.loop-left.at c.loop-left.left c.loop-left.invariant c.requires.0 c.loop-left-test.true, length-take-le 94 (take (c.loop-left.at + c.record_bytes-wide.result - c.loop-left.at) (drop c.loop-left.at c.args.file.now)) (omega (arith, (ap length (ap (λ w. take (c.loop-left.at + w - c.loop-left.at) (drop c.loop-left.at c.args.file.now)) c.record_bytes-wide.ensures) ∙ raw_long c.args.way c.args.file.now c.loop-left.at (put_inside c.args.way c.args.file.now c.args.mended.now c.args.before c.requires.1 c.loop-left.sums c.loop-left.header c.loop-left.mended c.loop-left.at c.loop-left.left c.loop-left.invariant)))))
+pub pass-requires : goal.pass-requires
+pass-requires c =
+    let turn = nth_turn c.args.way c.args.file.now c.args.before c.into_iter-i-iterator.result (cc) (cc c.record_bytes-wide.ensures) (cc) (cc) c.loop-i.yielded _ c.loop-i.yielded_by _ _ c.next.ensures.steps (c.in-Some.i, c.in-Some.raw) c.in-Some.is in
+    omega (arith, turn.1, c.loop-i.invariant.1.walk.count, nine_few c.args.way c.args.file.now c.args.before c.requires.0 c.requires.1)
 
-pub header_past-header-requires : goal.header_past-header-requires
-header_past-header-requires c = length-take-le 94 (take (c.loop-left.at + c.record_bytes-wide.result - c.loop-left.at) (drop c.loop-left.at c.args.file.now)) (omega (arith, (ap length (ap (λ w. take (c.loop-left.at + w - c.loop-left.at) (drop c.loop-left.at c.args.file.now)) c.record_bytes-wide.ensures) ∙ raw_long c.args.way c.args.file.now c.loop-left.at (put_inside c.args.way c.args.file.now c.args.mended.now c.args.before c.requires.1 c.loop-left.sums c.loop-left.header c.loop-left.mended c.loop-left.at c.loop-left.left c.loop-left.invariant))))
-
-pub overflow_add-at : goal.overflow_add-at
-overflow_add-at c = record { fits = omega (arith, c.record_bytes-wide.ensures, put_inside c.args.way c.args.file.now c.args.mended.now c.args.before c.requires.1 c.loop-left.sums c.loop-left.header c.loop-left.mended c.loop-left.at c.loop-left.left c.loop-left.invariant) }
-
-pub loop-left-smaller : goal.loop-left-smaller
-loop-left-smaller c = omega (arith, c.loop-left-test.true)
-
-pub loop-left-preserved : goal.loop-left-preserved
-loop-left-preserved c = rw c.record_bytes-wide.ensures (put_on c.args.way c.args.file.now c.args.mended.now c.args.before c.requires.1 c.loop-left.sums c.loop-left.header c.loop-left.mended c.loop-left.at c.loop-left.left c.loop-left.invariant (take (c.loop-left.at + c.record_bytes-wide.result - c.loop-left.at) (drop c.loop-left.at c.args.file.now)) _ _ _ c.loop-left-test.true (ap (λ w. take (c.loop-left.at + w - c.loop-left.at) (drop c.loop-left.at c.args.file.now)) c.record_bytes-wide.ensures) c.sums_past-sums.ensures.0 c.sums_past-sums.ensures.1 c.header_past-header.ensures c.put_record.ensures)
-
-pub shape_of-mended : goal.shape_of-mended
-shape_of-mended c = put_long c.args.way c.args.file.now c.args.mended.now c.args.before c.requires.1 c.loop-left.sums c.loop-left.header c.loop-left.mended c.loop-left.at c.loop-left.left c.loop-left.invariant
+pub loop-i-preserved : goal.loop-i-preserved
+loop-i-preserved c =
+    let turn = nth_turn c.args.way c.args.file.now c.args.before c.into_iter-i-iterator.result (cc) (cc c.record_bytes-wide.ensures) (cc) (cc) c.loop-i.yielded _ c.loop-i.yielded_by _ _ c.next.ensures.steps (c.in-Some.i, c.in-Some.raw) c.in-Some.is in
+    rw (length_push c.loop-i.yielded (c.in-Some.i, c.in-Some.raw))
+    (put_on c.args.way c.args.file.now c.args.mended.now c.loop-i.passed.sums c.loop-i.passed.header c.loop-i.mended (length c.loop-i.yielded) c.loop-i.invariant c.in-Some.raw.now turn.2 c.pass.new.self.sums c.pass.new.self.header c.put_record.new.mended (omega (arith, turn.1, c.requires.1.before)) (c.pass.ensures.0 ∙ ap (sums_past c.loop-i.passed.sums) c.chunk.ensures)
+    (c.pass.ensures.1 ∙ ap (header_past c.loop-i.passed.header) c.chunk.ensures) (rw (turn.0, c.record_bytes-wide.ensures) at c.put_record.ensures))
 
 pub returns : goal.returns
-returns c = put_end c.args.way c.args.file.now c.args.mended.now c.args.before c.requires.1 c.loop-left.sums c.loop-left.header c.loop-left.mended c.loop-left.at c.loop-left.left c.loop-left.invariant c.loop-left-test.false
+returns c =
+    let all = nth_end c.args.way c.args.file.now c.args.before c.into_iter-i-iterator.result (cc) (cc c.record_bytes-wide.ensures) (cc) (cc) c.loop-i.yielded _ c.loop-i.yielded_by _ _ c.next.ensures.steps c.in-None.is (omega (arith, nine_inside c.args.way c.args.file.now c.args.before c.requires.1)) in
+    put_end c.args.way c.args.file.now c.args.mended.now c.loop-i.passed.sums c.loop-i.passed.header c.loop-i.mended c.args.before (length c.loop-i.yielded) c.requires.1 c.loop-i.passed.small all c.loop-i.invariant

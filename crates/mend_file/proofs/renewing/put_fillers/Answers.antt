@@ -1,40 +1,23 @@
-use Rattle.mend_file.proofs.PutLaws.{filling_fits, filling_on, filling_end}
+use Rattle.std.proofs.Common.{length, ap, arith}
 use lib.Seq.{length-sets}
-use lib.ListN.{length}
-use mathlib.Core.Path.{◌≡◌}
-use native.Mathlib.Omega.{arith}
-use mathlib.Core.Path.{refl, ap}
+use Rattle.mend_file.proofs.RecordLaws.{record_least}
+use Rattle.mend_file.proofs.PutLaws.{filler_room, fillers_on, fillers_done}
 use Rattle.mend_file.proofs.renewing.put_fillers.Goals as goal
 
-pub loop-left-init : goal.loop-left-init
-loop-left-init c = record { room = (c.requires); long = refl; makes = refl }
-
-pub slice_bounds-copy_into-end : goal.slice_bounds-copy_into-end
-slice_bounds-copy_into-end c = rw c.filler-filler.ensures refl
-
 pub copy_into-requires : goal.copy_into-requires
-copy_into-requires c = let l : length c.filler-filler.result ≡ 94 = ap length c.filler-filler.ensures in omega (arith, l, filling_fits c.args.way _ _ _ c.loop-left.mended c.loop-left.to c.loop-left.left c.loop-left.invariant c.loop-left-test.true)
+copy_into-requires c = let room = (filler_room c.args.way c.args.mended.now c.args.from c.args.count c.loop.invariant c.loop-test.true c.requires) in omega (arith, room, record_least c.args.way)
 
 pub overflow_add-to : goal.overflow_add-to
-overflow_add-to c = record { fits = omega (arith, c.loop-left.invariant.long, filling_fits c.args.way _ _ _ c.loop-left.mended c.loop-left.to c.loop-left.left c.loop-left.invariant c.loop-left-test.true) }
+overflow_add-to c = let room = (filler_room c.args.way c.args.mended.now c.args.from c.args.count c.loop.invariant c.loop-test.true c.requires) in record { fits = omega (arith, room, record_least c.args.way) }
 
 pub end_line-requires : goal.end_line-requires
-end_line-requires c = omega (arith, filling_fits c.args.way _ _ _ c.loop-left.mended c.loop-left.to c.loop-left.left c.loop-left.invariant c.loop-left-test.true, ap length c.copy_into.ensures, length-sets c.loop-left.mended c.loop-left.to c.filler-filler.result)
+end_line-requires c = let room = (filler_room c.args.way c.args.mended.now c.args.from c.args.count c.loop.invariant c.loop-test.true c.requires) in omega (arith, room, ap length c.copy_into.ensures, length-sets c.loop.mended c.loop.to c.filler-filler.result)
 
-pub overflow_add-to-in-loop-left : goal.overflow_add-to-in-loop-left
-overflow_add-to-in-loop-left c = record { fits = omega (arith, c.record_bytes-to.ensures, c.loop-left.invariant.long, filling_fits c.args.way _ _ _ c.loop-left.mended c.loop-left.to c.loop-left.left c.loop-left.invariant c.loop-left-test.true) }
+pub overflow_add-to-in-loop : goal.overflow_add-to-in-loop
+overflow_add-to-in-loop c = let room = (filler_room c.args.way c.args.mended.now c.args.from c.args.count c.loop.invariant c.loop-test.true c.requires) in record { fits = omega (arith, room, c.record_bytes-to.ensures) }
 
-pub overflow_sub-left : goal.overflow_sub-left
-overflow_sub-left c = omega (arith, c.loop-left-test.true)
-
-pub loop-left-smaller : goal.loop-left-smaller
-loop-left-smaller c = omega (arith, c.loop-left-test.true)
-
-pub loop-left-preserved : goal.loop-left-preserved
-loop-left-preserved c = rw c.record_bytes-to.ensures (filling_on c.args.way _ _ _ c.loop-left.mended c.loop-left.to c.loop-left.left c.filler-filler.result _ _ c.loop-left-test.true c.filler-filler.ensures c.copy_into.ensures c.end_line.ensures c.loop-left.invariant)
-
-pub shape_of-mended : goal.shape_of-mended
-shape_of-mended c = c.loop-left.invariant.long
+pub loop-preserved : goal.loop-preserved
+loop-preserved c = rw c.record_bytes-to.ensures (fillers_on c.args.way c.args.mended.now c.args.from c.args.count c.loop.invariant c.loop-test.true c.filler-filler.result _ _ c.filler-filler.ensures c.copy_into.ensures c.end_line.ensures)
 
 pub returns : goal.returns
-returns c = filling_end c.args.way _ _ _ c.loop-left.mended c.loop-left.to c.loop-left.left c.loop-left.invariant c.loop-left-test.false
+returns c = fillers_done c.args.way c.args.mended.now c.args.from c.args.count c.loop-test.false c.loop.invariant

@@ -2,4 +2,4 @@ use Rattle.table_form.proofs.FormLaws.{file_control_formed}
 use Rattle.table_form.proofs.forms.file_control.Goals as goal
 
 pub returns : goal.returns
-returns c = rw (c.put_number.ensures, c.put_number-debited.ensures, c.put_number-hashed.ensures, c.put_number-counted.ensures, c.put_number-blocked.ensures, c.put_number-batches.ensures, c.put-typed.ensures) (file_control_formed c.args.sums)
+returns c = rw (c.put_number-6.ensures, c.put_number-5.ensures, c.put_number-4.ensures, c.put_number-3.ensures, c.put_number-2.ensures, c.put_number.ensures) (file_control_formed c.args.sums)

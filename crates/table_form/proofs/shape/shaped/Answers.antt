@@ -1,41 +1,53 @@
-use Rattle.table_form.proofs.ShapeLaws.{size_fails, plain_fails, numbers_fail, one_fails, taken_fails, due_decides, size_by_lem}
-use borrow.Author.Tests.{eqb-true, ne_eqb, eq-eqb}
-use native.Mathlib.Omega.{arith}
-use mathlib.Core.Path.{sym, ◌∙◌}
+use Rattle.std.proofs.Common.{◌≡◌, ◌&&◌, nat_eq, sym, ap, ◌∙◌}
+use Rattle.text.proofs.RowLaws.{length_rows}
+use Rattle.view.specs.View.{sum_over}
+use Rattle.view.specs.Table.{every_row, entries_due}
+use Rattle.table_form.specs.WorkSections.{count_at}
+use Rattle.table_form.proofs.ShapeLaws.{plain_by, numbers_by, taken_by, next_test, stop_test, due_decides, shape_wrong}
 use Rattle.table_form.proofs.shape.shaped.Goals as goal
-
-pub returns-then-not-sized : goal.returns-then-not-sized
-returns-then-not-sized c = sym (size_fails c.args.table.now (sym c.sized.ensures ∙ c.if-not-sized.true))
-
-pub sections-s-requires : goal.sections-s-requires
-sections-s-requires c = eqb-true _ _ (sym c.sized.ensures ∙ c.if-not-sized.false)
-
-pub counted-requires : goal.counted-requires
-counted-requires c = (eqb-true _ _ (sym c.sized.ensures ∙ c.if-not-sized.false), c.sections-s.ensures)
-
-pub returns-then-not-counted : goal.returns-then-not-counted
-returns-then-not-counted c = sym (plain_fails c.args.table.now c.sections-s.result c.sections-s.ensures (sym c.counted.ensures ∙ c.if-not-counted.true))
-
-pub numbered-requires : goal.numbered-requires
-numbered-requires c = omega (arith, size_by_lem c.args.table.now c.sections-s.result c.sections-s.ensures (eqb-true _ _ (sym c.sized.ensures ∙ c.if-not-sized.false)))
-
-pub returns-then-not-numbered : goal.returns-then-not-numbered
-returns-then-not-numbered c = sym (numbers_fail c.args.table.now c.sections-s.result c.sections-s.ensures (sym c.numbered.ensures ∙ c.if-not-numbered.true))
-
-pub count-requires : goal.count-requires
-count-requires c = omega (arith, size_by_lem c.args.table.now c.sections-s.result c.sections-s.ensures (eqb-true _ _ (sym c.sized.ensures ∙ c.if-not-sized.false)))
-
-pub returns-then-count-ne1 : goal.returns-then-count-ne1
-returns-then-count-ne1 c = sym (one_fails c.args.table.now c.sections-s.result c.sections-s.ensures (ne_eqb _ _ (λ e. c.if-count-ne1.true (c.count.ensures.0 ∙ e))))
+use Rattle.table_form.proofs.shape.shaped.Goals.{then-counted, else-counted, then-numbered, else-numbered, then-count-eq1, else-count-eq1}
 
 pub taken-requires : goal.taken-requires
-taken-requires c = (omega (arith, size_by_lem c.args.table.now c.sections-s.result c.sections-s.ensures (eqb-true _ _ (sym c.sized.ensures ∙ c.if-not-sized.false))), c.sections-s.ensures.batchesfew)
+taken-requires c = rw (c.rows-batches.ensures, length_rows) c.in-Some.ensures.1.batchesfew
 
-pub returns-then-taken-entries : goal.returns-then-taken-entries
-returns-then-taken-entries c = sym (taken_fails c.args.table.now c.sections-s.result c.sections-s.ensures (ne_eqb _ _ (λ e. c.if-taken-entries.true (c.taken.ensures ∙ e))))
+pub returns-then-taken-s : goal.returns-then-taken-s
+returns-then-taken-s c =
+    let t = c.args.table.now in
+    let s = c.in-Some.s in
+    let one : c.if-counted.value ≡ (plain_by t s && numbers_by t s) =
+    elim c.if-counted.branch [
+      | then-counted w ↦ next_test (sym c.counted.ensures ∙ w.if-counted.true) (w.value-is ∙ w.numbered.ensures ∙ ap (every_row _) c.rows-batches.ensures)
+      | else-counted w ↦ stop_test _ (sym c.counted.ensures ∙ w.if-counted.false) (w.value-is ∙ c.counted.ensures)
+    ] in
+    let two : c.if-numbered.value ≡ (plain_by t s && numbers_by t s && nat_eq (count_at t 0) 1) =
+    elim c.if-numbered.branch [
+      | then-numbered w ↦ next_test (sym one ∙ w.if-numbered.true) (w.value-is ∙ ap (λ n. nat_eq n 1) w.count.ensures.0)
+      | else-numbered w ↦ stop_test _ (sym one ∙ w.if-numbered.false) (w.value-is ∙ one)
+    ] in
+    let three : c.if-count-eq1.value ≡ (plain_by t s && numbers_by t s && nat_eq (count_at t 0) 1 && taken_by t s) =
+    elim c.if-count-eq1.branch [
+      | then-count-eq1 w ↦ next_test (sym two ∙ w.if-count-eq1.true) (w.value-is ∙ ap (λ n. nat_eq n s.entries) (w.taken.ensures ∙ ap (sum_over entries_due) c.rows-batches.ensures))
+      | else-count-eq1 w ↦ stop_test _ (sym two ∙ w.if-count-eq1.false) (w.value-is ∙ two)
+    ] in
+    rw (c.due.ensures, c.rows-entries.ensures) (sym (due_decides t s c.in-Some.ensures.1 c.in-Some.ensures.0 (sym three ∙ c.if-taken-s.true)))
 
-pub due-requires : goal.due-requires
-due-requires c = omega (arith, size_by_lem c.args.table.now c.sections-s.result c.sections-s.ensures (eqb-true _ _ (sym c.sized.ensures ∙ c.if-not-sized.false)), c.sections-s.ensures.entryrows)
-
-pub returns : goal.returns
-returns c = rw c.due.ensures (sym (due_decides c.args.table.now c.sections-s.result c.sections-s.ensures (sym c.counted.ensures ∙ c.if-not-counted.false) (sym c.numbered.ensures ∙ c.if-not-numbered.false) (eq-eqb _ _ (sym c.count.ensures.0 ∙ c.if-count-ne1.false)) (sym c.sized.ensures ∙ c.if-not-sized.false) (eq-eqb _ _ (sym c.taken.ensures ∙ c.if-taken-entries.false))))
+pub returns-else-taken-s : goal.returns-else-taken-s
+returns-else-taken-s c =
+    let t = c.args.table.now in
+    let s = c.in-Some.s in
+    let one : c.if-counted.value ≡ (plain_by t s && numbers_by t s) =
+    elim c.if-counted.branch [
+      | then-counted w ↦ next_test (sym c.counted.ensures ∙ w.if-counted.true) (w.value-is ∙ w.numbered.ensures ∙ ap (every_row _) c.rows-batches.ensures)
+      | else-counted w ↦ stop_test _ (sym c.counted.ensures ∙ w.if-counted.false) (w.value-is ∙ c.counted.ensures)
+    ] in
+    let two : c.if-numbered.value ≡ (plain_by t s && numbers_by t s && nat_eq (count_at t 0) 1) =
+    elim c.if-numbered.branch [
+      | then-numbered w ↦ next_test (sym one ∙ w.if-numbered.true) (w.value-is ∙ ap (λ n. nat_eq n 1) w.count.ensures.0)
+      | else-numbered w ↦ stop_test _ (sym one ∙ w.if-numbered.false) (w.value-is ∙ one)
+    ] in
+    let three : c.if-count-eq1.value ≡ (plain_by t s && numbers_by t s && nat_eq (count_at t 0) 1 && taken_by t s) =
+    elim c.if-count-eq1.branch [
+      | then-count-eq1 w ↦ next_test (sym two ∙ w.if-count-eq1.true) (w.value-is ∙ ap (λ n. nat_eq n s.entries) (w.taken.ensures ∙ ap (sum_over entries_due) c.rows-batches.ensures))
+      | else-count-eq1 w ↦ stop_test _ (sym two ∙ w.if-count-eq1.false) (w.value-is ∙ two)
+    ] in
+    c.if-taken-s.false ∙ sym (shape_wrong t s c.in-Some.ensures.1 (sym three ∙ c.if-taken-s.false))

@@ -1,41 +1,35 @@
-use Rattle.table_read.proofs.Writing.{left_long, count_small, batches_start, batches_room, batches_next, batches_end}
-use Rattle.check_record.proofs.Ways.{columns_at, columns_long, room_for, even_on, even_none, some_bytes}
-use native.Mathlib.Omega.{arith}
-use lib.ListN.{length}
+use Rattle.std.proofs.Common.{◌∙◌, length, arith, refl}
+use Rattle.check_record.proofs.Ways.{some_bytes}
+use Rattle.table_read.proofs.Writing.{Turn, left_start, batches_room, batches_next, batches_end, count_under, count_less}
 use Rattle.table_read.proofs.putting.put_batches.Goals as goal
 
-pub loop-at-init : goal.loop-at-init
-loop-at-init c = (omega arith, even_none c.args.way, omega arith, batches_start c.args.way c.args.file.now c.args.table.now c.args.start)
-
-pub overflow_add-rec : goal.overflow_add-rec
-overflow_add-rec c = record { fits = omega (arith, room_for c.args.way (length c.args.file.now) c.loop-at.at c.requires.0 c.loop-at.invariant.1 c.loop-at-test.true) }
-
-pub slice_bounds-rec-count : goal.slice_bounds-rec-count
-slice_bounds-rec-count c = omega arith
-
-pub slice_bounds-rec-start : goal.slice_bounds-rec-start
-slice_bounds-rec-start c = omega arith
-
-pub slice_bounds-rec-end : goal.slice_bounds-rec-end
-slice_bounds-rec-end c = omega (arith, room_for c.args.way (length c.args.file.now) c.loop-at.at c.requires.0 c.loop-at.invariant.1 c.loop-at-test.true)
+pub loop-raw-init : goal.loop-raw-init
+loop-raw-init c =
+    rw (c.into_iter-raw-iterator.ensures.into_iter_gives, c.chunks_exact-raw-items.ensures.rest, c.chunks_exact-raw-items.ensures.size, c.record_bytes.ensures)
+    (record { next = some_bytes c.args.way; ends = tt; wide = refl; few = omega arith; left = left_start _ c.args.table.now c.args.start })
 
 pub put_batch_piece-to-requires : goal.put_batch_piece-to-requires
-put_batch_piece-to-requires c = (columns_long c.args.way c.args.file.now c.loop-at.at (room_for c.args.way (length c.args.file.now) c.loop-at.at c.requires.0 c.loop-at.invariant.1 c.loop-at-test.true), batches_room c.args.way c.args.file.now c.args.table.now c.args.start c.loop-at.at (room_for c.args.way (length c.args.file.now) c.loop-at.at c.requires.0 c.loop-at.invariant.1 c.loop-at-test.true) c.loop-at.count c.loop-at.invariant.3 c.requires.2)
+put_batch_piece-to-requires c =
+    let t : Turn c.args.way _ _ _ _ = record { parts = c.in-Some.ensures.steps.1.0; long = c.in-Some.ensures.steps.1.1 ∙ c.loop-raw.invariant.wide; cut = c.chunk-rec.ensures } in
+    batches_room c.args.way c.args.file.now c.args.table.now c.args.start t c.loop-raw.count c.loop-raw.invariant.left c.requires.1
 
 pub count_after-count-requires : goal.count_after-count-requires
-count_after-count-requires c = (columns_long c.args.way c.args.file.now c.loop-at.at (room_for c.args.way (length c.args.file.now) c.loop-at.at c.requires.0 c.loop-at.invariant.1 c.loop-at-test.true), omega (arith, c.loop-at.invariant.2, c.requires.1, c.loop-at-test.true))
+count_after-count-requires c =
+    let t : Turn c.args.way _ _ _ _ = record { parts = c.in-Some.ensures.steps.1.0; long = c.in-Some.ensures.steps.1.1 ∙ c.loop-raw.invariant.wide; cut = c.chunk-rec.ensures } in
+    omega (arith, count_under c.args.way c.args.file.now c.args.table.now c.args.start t c.loop-raw.count (length c.args.file.now) c.loop-raw.invariant.few, c.requires.0)
 
-pub overflow_add-at : goal.overflow_add-at
-overflow_add-at c = record { fits = omega (arith, c.record_bytes-at.ensures, room_for c.args.way (length c.args.file.now) c.loop-at.at c.requires.0 c.loop-at.invariant.1 c.loop-at-test.true) }
-
-pub loop-at-smaller : goal.loop-at-smaller
-loop-at-smaller c = omega (arith, c.loop-at-test.true, c.record_bytes-at.ensures, some_bytes c.args.way, room_for c.args.way (length c.args.file.now) c.loop-at.at c.requires.0 c.loop-at.invariant.1 c.loop-at-test.true)
-
-pub loop-at-preserved : goal.loop-at-preserved
-loop-at-preserved c = (omega (arith, c.record_bytes-at.ensures, room_for c.args.way (length c.args.file.now) c.loop-at.at c.requires.0 c.loop-at.invariant.1 c.loop-at-test.true), rw c.record_bytes-at.ensures (even_on c.args.way c.loop-at.at c.loop-at.invariant.1), omega (arith, c.record_bytes-at.ensures, some_bytes c.args.way, c.count_after-count.ensures, count_small (columns_at c.args.file.now c.loop-at.at) c.loop-at.count, c.loop-at.invariant.2), rw (c.count_after-count.ensures, c.record_bytes-at.ensures) (batches_next c.args.way c.args.file.now c.args.table.now c.args.start c.loop-at.at (room_for c.args.way (length c.args.file.now) c.loop-at.at c.requires.0 c.loop-at.invariant.1 c.loop-at-test.true) c.loop-at.count c.loop-at.invariant.3 c.put_batch_piece-to.ensures))
-
-pub shape_of-table : goal.shape_of-table
-shape_of-table c = left_long c.loop-at.invariant.3
+pub loop-raw-preserved : goal.loop-raw-preserved
+loop-raw-preserved c =
+    let s = c.in-Some.ensures.steps in
+    let t : Turn c.args.way _ _ _ _ = record { parts = c.in-Some.ensures.steps.1.0; long = c.in-Some.ensures.steps.1.1 ∙ c.loop-raw.invariant.wide; cut = c.chunk-rec.ensures } in
+    rw c.count_after-count.ensures
+    (record {
+      next = rw s.0 c.loop-raw.invariant.next;
+      ends = tt;
+      wide = s.0 ∙ c.loop-raw.invariant.wide;
+      few = count_less c.args.way c.args.file.now c.args.table.now c.args.start t c.loop-raw.count (length c.args.file.now) c.loop-raw.invariant.few;
+      left = batches_next c.args.way c.args.file.now c.args.table.now c.args.start t c.loop-raw.count c.loop-raw.invariant.left c.put_batch_piece-to.ensures;
+    })
 
 pub returns : goal.returns
-returns c = batches_end c.args.way c.args.file.now c.args.table.now c.args.start c.loop-at.count c.loop-at.invariant.3 c.loop-at-test.false
+returns c = batches_end c.args.way c.args.file.now c.args.table.now c.args.start c.loop-raw.count _ c.loop-raw.invariant.left (omega (arith, c.in-None.ensures.steps.1.0, c.loop-raw.invariant.wide))

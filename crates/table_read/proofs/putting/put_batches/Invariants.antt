@@ -1,12 +1,15 @@
-use Rattle.table_read.proofs.Writing.{BatchesLeft}
+use Rattle.std.proofs.Common.{◌≡◌, ◌+◌, ◌≤◌, length}
+use Rattle.std.specs.Slice.Iter.{chunks_exact_rest, chunks_exact_size}
 use Rattle.layout.specs.Ways.{record_bytes}
-use lib.ListN.{length}
-use mathlib.Core.Path.{◌≡◌}
-use Prim.Native.Nat.{◌-◌, ◌%◌, ◌≤◌}
+use Rattle.table_read.proofs.Writing.{BatchesLeft}
 use Rattle.table_read.proofs.putting.put_batches.Given as goal
 
-abbrev pub invariant-loop-at : goal.invariant-loop-at
-invariant-loop-at l = (l.at ≤ length l.file) × (l.at % record_bytes l.way ≡ 0) × (l.count ≤ l.at) × BatchesLeft l.way l.file l.initial.table l.start l.count l.table l.to l.at
-
-abbrev pub decreases-loop-at : goal.decreases-loop-at
-decreases-loop-at l = length l.file - l.at
+abbrev pub invariant-loop-raw : goal.invariant-loop-raw
+invariant-loop-raw l =
+    record {
+      next : (goal.iterator-loop-raw).can_next l.raw-iterator;
+      ends : (goal.iterator-loop-raw).is_finite l.raw-iterator;
+      wide : chunks_exact_size l.raw-iterator ≡ record_bytes l.fn.way;
+      few : l.count + length (chunks_exact_rest l.raw-iterator) ≤ length l.file;
+      left : BatchesLeft l.fn.way l.file l.initial.table l.start l.count (chunks_exact_rest l.raw-iterator) l.table l.to;
+    }

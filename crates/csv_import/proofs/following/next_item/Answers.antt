@@ -1,8 +1,0 @@
-use borrow.Author.Tests.{lt-ltb, le-ltb}
-use Rattle.csv_import.proofs.following.next_item.Goals as goal
-
-pub returns-then-c-gt0 : goal.returns-then-c-gt0
-returns-then-c-gt0 c = rw (lt-ltb 0 c.args.c.left c.if-c-gt0.true) c.entry.ensures
-
-pub returns : goal.returns
-returns c = rw (le-ltb 0 c.args.c.left c.if-c-gt0.false) c.batch_control.ensures
