@@ -13,23 +13,21 @@ fn rows_of(record_type: &RecordType) -> Vec<Row> {
     fields.map(|field| (field.first, field.last, format!("{:?}", field.kind))).collect()
 }
 
-/// The rows of `const NAME: [Row; N] = [Row { first: 1, last: 1, kind: Kind::Type, }, ..];`
+/// The rows of `const NAME: [Row; N] = [row!(1, 1, Kind::Type), ..];`, a line each.
 fn proved_rows(name: &str) -> Vec<Row> {
     let start = PROVED.find(&format!("const {name}: [Row; ")).expect("the table is there");
     let table = PROVED[start..].split_once("= [").expect("a table has rows").1;
     let table = table.split_once("];").expect("a table has an end").0;
-    table.split("Row {").skip(1).map(proved_row).collect()
+    table.split("row!(").skip(1).map(proved_row).collect()
 }
 
 fn proved_row(text: &str) -> Row {
-    let part = |name: &str| {
-        let (_, rest) = text.split_once(&format!("{name}: ")).expect("a row has three parts");
-        rest.split_once(",\n").expect("a part ends with its line").0
-    };
+    let (row, _) = text.split_once("),").expect("a row has an end");
+    let parts: Vec<&str> = row.splitn(3, ", ").collect();
     let kind = ["Kind::", "Own::", "Near::", "Sum::"]
         .iter()
-        .fold(part("kind").to_string(), |kind, prefix| kind.replace(prefix, ""));
-    (part("first").parse().unwrap(), part("last").parse().unwrap(), kind)
+        .fold(parts[2].to_string(), |kind, prefix| kind.replace(prefix, ""));
+    (parts[0].parse().unwrap(), parts[1].parse().unwrap(), kind)
 }
 
 /// The rows of `name = row 1 1 Kind.Type ∷ row 2 3 (Kind.Fixed 1) ∷ .. ∷ []`, a line each.
