@@ -218,17 +218,18 @@ fn a_file_that_is_too_long_is_not_read() {
     ach!("read", path, "-o", folder.path("t"), "--line").is(1, "NO 1 0 0\n", "");
     ach!("write", path, "-o", folder.path("t"), "--line").is(1, "NO 24 0 0\n", "");
     ach!("alter", path, "1", "1.00", "--in-place", "--line").is(1, "NO 1 0 0\n", "");
-    let words = format!(
-        "{}: refused, 1: the length of the file is wrong
-  stands more than 94000000 bytes
-  due    a multiple of 94 bytes, from 94 to 94000000: records back to back, no line ends
+    let words = |most: u64, wide: u64, ends: &str| {
+        format!(
+            "{}: refused, 1: the length of the file is wrong
+  stands more than {most} bytes
+  due    a multiple of {wide} bytes, from {wide} to {most}: {ends}
 ",
-        path.display()
-    );
-    ach!("show", path).is(1, "", &words);
-    let words = words.replace("94000000", "96000000").replace("94", "96");
-    let words = words.replace("records back to back, no line ends", LINED_DUE);
-    ach!("show", path, "--lined").is(1, "", &words);
+            path.display()
+        )
+    };
+    let plain = words(94_000_000, 94, "records back to back, no line ends");
+    ach!("show", path).is(1, "", &plain);
+    ach!("show", path, "--lined").is(1, "", &words(96_000_000, 96, LINED_DUE));
     for (length, options) in
         [(94_000_001, ["--line"].as_slice()), (96_000_001, &["--line", "--lined"])]
     {
