@@ -43,7 +43,7 @@ pub fn tell_checked(checked: Answer<Acceptance>, acceptance: &mut [u64; 29]) -> 
             acceptance[2] = accepted.addenda;
             acceptance[3] = accepted.debit;
             acceptance[4] = accepted.credit;
-            acceptance[5..].copy_from_slice(&accepted.bycode);
+            text::copy_into(acceptance, 5, &accepted.bycode);
             0
         }
         Err(refusal) => code_of(Err(refusal)),

@@ -112,8 +112,8 @@ const GROUP_SUMS: [u8; 1000] = [
 // The table, to be lent. A constant array that is indexed is built anew at each use: a check makes one copy, where it begins.
 #[derive(Clone, Copy)]
 pub struct GroupSums {
-    sums: [u8; 1000],
-    ghost right: { sums ≡ group_sums },
+    pub sums: [u8; 1000],
+    pub ghost right: { sums ≡ group_sums },
 }
 
 impl GroupSums {

@@ -5,6 +5,7 @@ use Rattle.std.proofs.lemmas.List.{length-replicate, take_at, drop_at, get_or-ma
 use Rattle.std.proofs.Math.ListN.{get_or-eq_default}
 use Rattle.std.proofs.Math.Seq.{length-sets}
 use Rattle.std.proofs.lemmas.List.Edits.{sets, sets-eq}
+use lib.ListN.{set}
 use borrow.Rule.Slice.PartMut.{put_mid}
 use borrow.Author.Tests.{leb-true, leb-false, eqb-true}
 use Rattle.text.specs.Decimal.{pick, render}
@@ -304,3 +305,14 @@ empty_made bank made digits number l e f = ap (λ x. replicate 77 32 ++ 48 ∷ x
 
     behind : take 8 (made ++ replicate 7 32) ++ (digits ++ drop 7 (drop 8 (made ++ replicate 7 32))) ≡ bank ++ (render 7 number ++ [])
     behind = rw (f, rest, front) refl
+
+-- the same, where the bank is put into the whole row
+pub bank_put : (bank digits r : List ℕ) (number : ℕ) → length bank ≡ 8 → r ≡ sets (set (replicate 93 32) 77 48) 78 bank → digits ≡ render (length (take 7 (drop 86 r))) number
+    → take 86 r ++ (digits ++ drop 7 (drop 86 r)) ≡ empty_row bank number
+bank_put bank digits r number l e f = rw known (empty_made bank bank digits number l refl (rw known at f))
+  where
+    base : List ℕ
+    base = set (replicate 93 32) 77 48
+
+    known : r ≡ replicate 77 32 ++ 48 ∷ (bank ++ replicate 7 32)
+    known = e ∙ sets-eq bank base 78 (rw l (lit≤ tt)) ∙ rw l refl

@@ -118,7 +118,7 @@ fn empty_row(bank: &[u8; 8], number: u64) -> [u8; 93]
 {
     let mut row = [b' '; 93];
     row[77] = b'0';
-    row[78..86].copy_from_slice(bank);
+    text::copy_into(&mut row, 78, bank);
     text::put_number(&mut row[86..], number);
     row
 }

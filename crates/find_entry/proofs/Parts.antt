@@ -39,6 +39,10 @@ pub starts : (way : Way) (n i : ℕ) → i ≤ n / record_bytes way → record_b
 starts Way.Plain n i h = omega arith
 starts Way.Lined n i h = omega arith
 
+pub once : (way : Way) (i : ℕ) → i ≤ record_bytes way * i
+once Way.Plain i = omega arith
+once Way.Lined i = omega arith
+
 pub counted : (way : Way) (n i : ℕ) → record_bytes way * i ≤ n → i ≤ n / record_bytes way
 counted Way.Plain n i h = omega arith
 counted Way.Lined n i h = omega arith

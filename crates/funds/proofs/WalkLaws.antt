@@ -10,7 +10,8 @@ use native.Mathlib.Omega.{arith}
 use borrow.Author.Tests.{eq-eqb}
 use lib.ListN.{length, take, drop, get_or, length-append, length-drop, drop_of_length-le}
 use borrow.Rule.Slice.PartMut.{put_mid}
-use lib.Seq.{drop-drop, take-add, take_all, take_at, drop_at, length-take-le, get_or-drop}
+use lib.Seq.{sets, drop-drop, take-add, take_all, take_at, drop_at, length-take-le, get_or-drop}
+use Rattle.text.proofs.SetLaws.{sets_put}
 use Rattle.layout.specs.declared.Way.{Way}
 use Rattle.layout.specs.Ways.{record_bytes}
 use Rattle.check_sums.proofs.SumLaws.{digits_small}
@@ -150,6 +151,9 @@ module _ {all held left rows : List ℕ} {put : ℕ} (room : length all ≤ leng
           most = row_inside;
           written = rw (two, before, behind, drop-drop 2 put held, both) (sym (append_assoc front row (drop (put + 2) held)));
         }
+
+    pub filling_put : Filling all held rest (put + 2) (sets rows put row)
+    filling_put = rw (← sets_put rows row put 2 (sym l) (omega (arith, row_room, l))) (filling_on 2 refl)
 
 pub filled : {all held rows : List ℕ} {put : ℕ} → Filling all held [] put rows → rows ≡ in_front all held
 filled {all} {held} {rows} {put} t =

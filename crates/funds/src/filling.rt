@@ -71,7 +71,7 @@ pub fn fill(way: Way, file: &[u8], rows: &mut [u64])
 {
     let mut put = 0;
     for row in Rows::of(way, file) {
-        rows[put..put + 2].copy_from_slice(&row);
+        text::copy_into(rows, put, &row);
         put += 2;
     }
 }

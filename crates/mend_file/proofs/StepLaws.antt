@@ -1,6 +1,7 @@
 -- One record of the mended file checked: it has other columns, and its line end is its own.
 -- Assumes nothing but what a statement says.
-use Rattle.std.specs.Prelude.{Ok, Err}
+use Rattle.std.specs.Prelude.{Result, Ok, Err}
+use Rattle.std.specs.Result.{is_ok}
 use mathlib.Core.Path.{◌≡◌, refl, sym, ap, ap₂, ◌∙◌}
 use mathlib.Core.Bool.{Bool, true, false, ◌&&◌}
 use mathlib.Core.List.{List, ◌++◌, append-nil}
@@ -19,7 +20,7 @@ use Rattle.check_across.specs.declared.Sums.{Sums}
 use Rattle.check_sums.specs.declared.State.{State}
 use Rattle.check_sums.specs.Sums.{tally}
 use Rattle.check_record.specs.declared.Wrong.{Wrong}
-use Rattle.check_record.specs.Verdict.{Verdict, Stepped, wrong_of}
+use Rattle.check_record.specs.Verdict.{Verdict, Stepped, wrong_of, stepped_as}
 use Rattle.check_record.specs.Record.{Piece, fields_from, line_of, stepped, bare, closing, record_of, piece_of}
 use Rattle.table_form.specs.Forms.{batch_control_from}
 use Rattle.mend.specs.Mend.{type_of, refilled, mended_record}
@@ -64,6 +65,15 @@ module _ (way : Way) (st : State) (c r : List ℕ) (l : length c ≡ 94) where
 
     pub refilled_closed : (piece_of way r).closed ≡ true → told (Ok tt) next ≡ record_of st (piece_of way (refilled c r))
     refilled_closed b = e ∙ sym (by_line_end ∙ ap (λ x. record_of st (piece c x)) b)
+
+  -- the same of a result as it is handed on
+  pub refilled_stopped : (tried : Result State Wrong) → stepped_as st tried ≡ record_of st (bare c) → is_ok tried ≡ true → (piece_of way r).closed ≡ false → told (Err (wrong_of Fault.LineEnd 0)) st ≡ record_of st (piece_of way (refilled c r))
+  refilled_stopped (Ok next) e o b = refilled_unclosed next e b
+  refilled_stopped (Err wrong) e o b = cc
+
+  pub refilled_tried : (tried : Result State Wrong) → stepped_as st tried ≡ record_of st (bare c) → (is_ok tried ≡ true → (piece_of way r).closed ≡ true) → stepped_as st tried ≡ record_of st (piece_of way (refilled c r))
+  refilled_tried (Ok next) e b = refilled_closed next e (b refl)
+  refilled_tried (Err wrong) e b = refilled_failed wrong e
 
 -- a mended record is its mended columns, with the line end that it had
 mended_by : (t : Bool) (s : Sums) (h r : List ℕ)

@@ -43,14 +43,14 @@ fn stepped(
     ensures step { stepped_as st result ≡ record_of st (piece_of way (refilled columns.now raw.now)) }
     ensures fair { IfOk result Fair }
 {
-    let next = step::check(groups, st, columns)?;
-    if !step::closed(way, raw) {
+    let tried = step::check(groups, st, columns);
+    if tried.is_ok() && !step::closed(way, raw) {
         return Err(Wrong {
             fault: Fault::LineEnd,
             field: 0,
         });
     }
-    Ok(next)
+    tried
 }
 
 // The mended record's check.
@@ -59,7 +59,8 @@ fn mended_step(way: Way, groups: &GroupSums, st: State, raw: &[u8]) -> Result<St
     ensures step { stepped_as st result ≡ record_of st (piece_of way (mended_record st.sums st.header raw.now)) }
     ensures fair { IfOk result Fair }
 {
-    let columns = refilling::mended(st.sums, &st.header, text::chunk(raw, 0));
+    let header = st.header;
+    let columns = refilling::mended(st.sums, &header, text::chunk(raw, 0));
     stepped(way, groups, st, &columns, raw)
 }
 
@@ -95,7 +96,10 @@ pub fn judged(way: Way, file: &[u8]) -> Answer<usize>
             control_step(way, &groups, st, raw).map_err(refused)?;
             return Ok(i);
         }
-        st = mended_step(way, &groups, st, raw).map_err(refused)?;
+        match mended_step(way, &groups, st, raw) {
+            Ok(next) => st = next,
+            Err(wrong) => return Err(refused(wrong)),
+        }
         last = raw[0];
     }
     Err(Refusal::at(Fault::Ended, st.sums.records + 1, 0))

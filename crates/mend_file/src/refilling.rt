@@ -45,10 +45,8 @@ impl Passed {
     {
         let line = line_by(rec[0]);
         let said = check_across::said(rec);
-        *self = Passed {
-            sums: check_sums::next_sums(self.sums, line, said, rec),
-            header: check_sums::next_header(self.header, line, rec),
-        };
+        self.sums = check_sums::next_sums(self.sums, line, said, rec);
+        self.header = check_sums::next_header(self.header, line, rec);
     }
 }
 

@@ -82,6 +82,15 @@ put_length way f n rs = length-sets f (record_bytes way * n) (joined (map (close
 
 -- ---- room for the next one
 
+-- room behind those that wait is room before them
+pub room_less : (way : Way) (f : List ℕ) (s : Sums) (n : ℕ) → Room way f s n → Room way f s 0
+room_less way f s n h =
+    record {
+      small = h.small;
+      few = omega (arith, h.few);
+      inside = omega (arith, h.inside, mul-le-mul_left {m = s.records + 0 + 1} {n = s.records + n + 1} (record_bytes way) (omega arith));
+    }
+
 -- one of two is put
 pub room_on : (way : Way) (f g : List ℕ) (s next : Sums) (line : Line) (r : List ℕ) → Room way f s 1 → next ≡ next_sums s line r → Small next → length g ≡ length f → Room way g next 0
 room_on way f g s next line r h e small l =

@@ -1,8 +1,25 @@
-// A flag for each entry number that a file can have, eight to a byte.
-ghost use Rattle.std.specs.Prelude.{ℕ, ◌<◌, ◌≡◌, ◌||◌, false, List, eqb, length};
+// A flag for each number, eight to a byte, and the flags of all entry numbers that a file can have.
+ghost use Rattle.std.specs.Prelude.{ℕ, ◌*◌, ◌<◌, ◌≡◌, ◌||◌, false, List, eqb, length};
 ghost use Rattle.recall_close.specs.WorkBits.{flag_at};
 
 use std::marker::Model;
+
+// Whether the number's flag is set.
+pub fn is_set(flags: &[u8], k: usize) -> bool
+    requires { k < 8 * length flags.now }
+    ensures { result ≡ flag_at flags.now k }
+{
+    (flags[k / 8] >> (k % 8)) % 2 == 1
+}
+
+// Sets the number's flag; every other one stays as it is.
+pub fn set(flags: &mut [u8], k: usize)
+    requires { k < 8 * length flags.old }
+    ensures long { length flags.new ≡ length flags.old }
+    ensures set { (j : ℕ) → flag_at flags.new j ≡ (eqb k j || flag_at flags.old j) }
+{
+    flags[k / 8] |= 1u8 << (k % 8);
+}
 
 // The flags are seen as the list of their bytes.
 #[derive(Drop)]
@@ -33,7 +50,7 @@ impl Flags {
         requires { k < 1000000 }
         ensures { result ≡ flag_at self.now k }
     {
-        (self.bytes[k / 8] >> (k % 8)) % 2 == 1
+        is_set(&self.bytes, k)
     }
 
     // Sets the number's flag; every other one stays as it is.
@@ -41,6 +58,6 @@ impl Flags {
         requires { k < 1000000 }
         ensures { (j : ℕ) → flag_at self.new j ≡ (eqb k j || flag_at self.old j) }
     {
-        self.bytes[k / 8] |= 1u8 << (k % 8);
+        set(&mut self.bytes, k);
     }
 }

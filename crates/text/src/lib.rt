@@ -77,11 +77,13 @@ pub fn chunk<const N: usize>(s: &[u8], at: usize) -> &[u8; N]
     s[at..at + N].try_into().unwrap()
 }
 
-// Copies a slice into another, from index `at` on.
-#[tactic(auto, using(crate::proofs::SetLaws::sets_put))]
-pub fn copy_into(to: &mut [u8], at: usize, from: &[u8])
+// Copies a slice into another, from index `at` on. A loop, as `copy_from_slice` leaves a `memmove` where
+// LLVM cannot tell the two slices apart, and what links the library is promised `memcpy` and `memset` alone.
+pub fn copy_into<T: Copy>(to: &mut [T], at: usize, from: &[T])
     requires { at + length from.now ≤ length to.old }
     ensures { to.new ≡ sets to.old at from.now }
 {
-    to[at..at + from.len()].copy_from_slice(from);
+    for i in 0..from.len() {
+        to[at + i] = from[i];
+    }
 }

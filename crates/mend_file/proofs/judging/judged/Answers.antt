@@ -1,4 +1,4 @@
-use Rattle.std.proofs.Common.{◌+◌, length, refl, sym, ap, ◌∙◌, arith, rules, Ok, Err}
+use Rattle.std.proofs.Common.{◌≡◌, ◌+◌, length, refl, sym, ap, ◌∙◌, arith, rules, Ok, Err}
 use Rattle.std.proofs.lemmas.Result.{err_from_is_err_and}
 use Rattle.std.proofs.lemmas.List.{length_push}
 use Rattle.layout.specs.Paper.{refusal}
@@ -40,20 +40,19 @@ mended_step-requires c =
     let turn = record_turn c.args.way c.args.file.now c.into_iter-i-iterator.result (cc) (cc c.record_bytes.ensures) (cc) c.loop-i.yielded _ c.loop-i.yielded_by _ _ c.next.ensures.steps (c.in-Some.i, c.in-Some.raw) c.in-Some.is in
     (c.loop-i.invariant.fair, omega (arith, c.loop-i.invariant.walk.count, turn.1.inside, records_few c.args.way c.args.file.now c.requires), at_long c.args.way c.args.file.now (length c.loop-i.yielded) c.in-Some.raw.now turn.1)
 
-pub returns-in_err-st-clause-answer : goal.returns-in_err-st-clause-answer
-returns-in_err-st-clause-answer c =
+pub returns-in-Err-clause-answer : goal.returns-in-Err-clause-answer
+returns-in-Err-clause-answer c =
     let turn = record_turn c.args.way c.args.file.now c.into_iter-i-iterator.result (cc) (cc c.record_bytes.ensures) (cc) c.loop-i.yielded _ c.loop-i.yielded_by _ _ c.next.ensures.steps (c.in-Some.i, c.in-Some.raw) c.in-Some.is in
-    let told = err_from_is_err_and c.from_residual-in_err-st.result c.from_residual-in_err-st.ensures.1 in
-    let wrong = wrong_is (c.in-Some.i + 1) (λ w r k. search rules) c.mended_step.result c.map_err-in-loop-i.result c.in_err-st.field-0.0 c.map_err-in-loop-i.ensures.cases c.in_err-st.was in
-    rw (told.1, told.2)
-    (wrong.2 ∙ ap (λ n. refusal wrong.0.fault (n + 1) wrong.0.field) turn.0 ∙ judged_failed c.args.way c.args.file.now c.loop-i.st c.loop-i.last (length c.loop-i.yielded) c.loop-i.invariant c.in-Some.raw.now turn.1 wrong.0 (rw wrong.1 at c.mended_step.ensures.step) (sym c.ends_file.ensures ∙ c.if-ends_file.false))
+    let wrong = c.in-Err.wrong in
+    let gave : Err c.refused.result ≡ refusal wrong.fault (c.in-Some.i + 1) wrong.field = search rules in
+    gave ∙ ap (λ n. refusal wrong.fault (n + 1) wrong.field) turn.0
+    ∙ judged_failed c.args.way c.args.file.now c.loop-i.st c.loop-i.last (length c.loop-i.yielded) c.loop-i.invariant c.in-Some.raw.now turn.1 wrong c.in-Err.ensures.step (sym c.ends_file.ensures ∙ c.if-ends_file.false)
 
 pub loop-i-preserved : goal.loop-i-preserved
 loop-i-preserved c =
     let turn = record_turn c.args.way c.args.file.now c.into_iter-i-iterator.result (cc) (cc c.record_bytes.ensures) (cc) c.loop-i.yielded _ c.loop-i.yielded_by _ _ c.next.ensures.steps (c.in-Some.i, c.in-Some.raw) c.in-Some.is in
-    let passed = right_is _ c.mended_step.result c.map_err-in-loop-i.result c.in_ok-st.st c.map_err-in-loop-i.ensures.cases c.in_ok-st.was in
     rw (length_push c.loop-i.yielded (c.in-Some.i, c.in-Some.raw))
-    (judged_on c.args.way c.args.file.now c.loop-i.st c.loop-i.last (length c.loop-i.yielded) c.loop-i.invariant c.in-Some.raw.now turn.1 c.in_ok-st.st (rw passed at c.mended_step.ensures.step) (sym c.ends_file.ensures ∙ c.if-ends_file.false) (rw passed at c.mended_step.ensures.fair))
+    (judged_on c.args.way c.args.file.now c.loop-i.st c.loop-i.last (length c.loop-i.yielded) c.loop-i.invariant c.in-Some.raw.now turn.1 c.in-Ok.next c.in-Ok.ensures.step (sym c.ends_file.ensures ∙ c.if-ends_file.false) c.in-Ok.ensures.fair)
 
 pub returns-clause-answer : goal.returns-clause-answer
 returns-clause-answer c =

@@ -6,4 +6,4 @@ pub returns : goal.returns
 returns c =
     let line = c.line_by-line.ensures in
     let whole = take_all 94 c.args.rec.now (omega arith) in
-    (c.next_sums.ensures.0 ∙ rw (line, whole) refl, c.next_header.ensures ∙ rw (line, whole) refl)
+    (c.next_sums-self.ensures.0 ∙ rw (line, whole) refl, c.next_header-self.ensures ∙ rw (line, whole) refl)
